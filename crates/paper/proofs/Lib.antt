@@ -1,0 +1,1 @@
+-- Why the definitions of specs/ are the right ones: their laws.
