@@ -52,14 +52,15 @@ module _ (H : History) where
   unwritten zero p q a e l w u h₁ h₂ = let v : u ≡ q = omega arith in ap (λ (g : ℕ). block (H .image g) a) v
   unwritten (suc k) p q a e l w u h₁ h₂ =
       let later : (v : ℕ) → suc p ≤ v → v ≤ q → block (H .image v) a ≡ block (H .image q) a =
-        unwritten k (suc p) q a (omega arith) l (or-false-right (H .writes p a) _ w) in
+      unwritten k (suc p) q a (omega arith) l (or-false-right (H .writes p a) _ w) in
       elim (decLt p u) [
-        yes h ↦ later u h h₂
-      | no h ↦
-          let v : u ≡ p = omega arith in
-          ap (λ (g : ℕ). block (H .image g) a) v
-          ∙ sym (H .stays p a (omega arith) (or-false-left (H .writes p a) _ w))
-          ∙ later (suc p) (omega arith) (omega arith) ]
+        | yes h ↦ later u h h₂
+        | no h ↦
+            let v : u ≡ p = omega arith in
+            ap (λ (g : ℕ). block (H .image g) a) v
+            ∙ sym (H .stays p a (omega arith) (or-false-left (H .writes p a) _ w))
+            ∙ later (suc p) (omega arith) (omega arith)
+      ]
 
   -- a block written lies inside
   pub written-inside : (k p q a : ℕ) → p + k ≡ q → q ≤ H .last → writes-in H p k a ≡ true → a < H .blocks
@@ -69,7 +70,7 @@ module _ (H : History) where
 
   -- The second's p ≤ the first's q ≤ the second's q: the two log diffs merge into the one over both.
   pub logged-merge : (p₀ q₀ p₁ q₁ : ℕ) → p₀ ≤ q₀ → p₁ ≤ q₀ → q₀ ≤ q₁ → q₁ ≤ H .last
-    → (a : ℕ) → merged (logged H p₀ q₀) (logged H p₁ q₁) a ≡ logged H (min p₀ p₁) q₁ a
+      → (a : ℕ) → merged (logged H p₀ q₀) (logged H p₁ q₁) a ≡ logged H (min p₀ p₁) q₁ a
   unfolding merged logged
   logged-merge p₀ q₀ p₁ q₁ l₀ l₁ l₂ l₃ a =
       go (which (writes-in H p₁ (q₁ - p₁) a)) (which (writes-in H p₀ (q₀ - p₀) a)) (which (writes-in H (min p₀ p₁) (q₁ - min p₀ p₁) a))
@@ -84,11 +85,12 @@ module _ (H : History) where
       narrower : Step H (min p₀ p₁) q₁ a → writes-in H p₁ (q₁ - p₁) a ≡ false → writes-in H p₀ (q₀ - p₀) a ≡ false → ⊥
       narrower s n₁ n₀ =
           elim (decLt (s .gid) p₁) [
-            yes h ↦ true≢false (sym (step-in (q₀ - p₀) p₀ q₀ a (omega arith) (record { gid = s .gid; from = omega (arith, s .from); to = omega arith; writes = s .writes })) ∙ n₀)
-          | no h ↦ true≢false (sym (step-in (q₁ - p₁) p₁ q₁ a (omega arith) (record { gid = s .gid; from = omega arith; to = s .to; writes = s .writes })) ∙ n₁) ]
+            | yes h ↦ true≢false (sym (step-in (q₀ - p₀) p₀ q₀ a (omega arith) (record { gid = s .gid; from = omega (arith, s .from); to = omega arith; writes = s .writes })) ∙ n₀)
+            | no h ↦ true≢false (sym (step-in (q₁ - p₁) p₁ q₁ a (omega arith) (record { gid = s .gid; from = omega arith; to = s .to; writes = s .writes })) ∙ n₁)
+          ]
 
       go : Which (writes-in H p₁ (q₁ - p₁) a) → Which (writes-in H p₀ (q₀ - p₀) a) → Which (writes-in H (min p₀ p₁) (q₁ - min p₀ p₁) a)
-        → merged (logged H p₀ q₀) (logged H p₁ q₁) a ≡ logged H (min p₀ p₁) q₁ a
+          → merged (logged H p₀ q₀) (logged H p₁ q₁) a ≡ logged H (min p₀ p₁) q₁ a
       go (holds y₁) w₀ (holds y) = rw (y₁, y)
       go (holds y₁) w₀ (fails n) = absurd (true≢false (sym (wider (omega arith) (omega arith) (step-of (q₁ - p₁) p₁ q₁ a (omega arith) y₁)) ∙ n))
       go (fails n₁) (holds y₀) (holds y) = rw (n₁, y₀, y) (ap some (unwritten (q₁ - p₁) p₁ q₁ a (omega arith) l₃ n₁ q₀ l₁ l₂))

@@ -3,12 +3,15 @@ use Prim.Native.Nat.{ℕ, zero, suc, _+_, _*_, _/_, _%_, _-_, _≤_, _<_, min}
 use mathlib.Core.Path.{_≡_, refl, sym, ap, _∙_}
 use mathlib.Core.Option.{Option, none, some}
 use mathlib.Core.List.{List, [], _∷_}
+use mathlib.Core.Bool.{true, false, false≢true}
 use native.Mathlib.Omega.{arith}
 use native.Mathlib.Nat.{not-suc-le-zero, le-of-suc-le-suc}
-use native.Mathlib.Decide.{decLt}
-use lib.ListN.{length, getD, take, drop, length-take, length-drop, List·getD-eq-default}
+use lib.Dec.{eqb}
+use borrow.Author.Tests.{eqb-true}
+use lib.ListN.{length, getD, take, drop, length-take, length-drop}
 use lib.Seq.{getD-take, getD-drop, ext-getD}
-use Rattle.paper.specs.Image.{Map, block, each, newer, overlay}
+use Rattle.paper.specs.Image.{Map, block, each, newer, overlay, same}
+use Rattle.paper.proofs.Bools.{and-true-left, and-true-right}
 
 pub each-length : (n : ℕ) (f : ℕ → ℕ) → length (each n f) ≡ n
 unfolding each
@@ -56,3 +59,14 @@ blocks-of-equal-bytes x y a e h = ext-getD 0 (block x a) (block y a) (cc (block-
     same-byte k l =
         let m : k < min 512 (length x - 512 * a) = rw block-length at l in
         block-at x a k (omega arith) ∙ h (512 * a + k) (omega arith) (omega arith) ∙ sym (block-at y a k (omega arith))
+
+-- `same` is true of equal lists alone
+pub same-true : (xs ys : List ℕ) → same xs ys ≡ true → xs ≡ ys
+unfolding same
+same-true [] [] e = refl
+same-true [] (y ∷ ys) e = absurd (false≢true e)
+same-true (x ∷ xs) [] e = absurd (false≢true e)
+same-true (x ∷ xs) (y ∷ ys) e =
+    let h : x ≡ y = eqb-true x y (and-true-left _ _ e) in
+    let t : xs ≡ ys = same-true xs ys (and-true-right (eqb x y) _ e) in
+    cc

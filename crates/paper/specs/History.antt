@@ -3,6 +3,7 @@ use Prim.Native.Nat.{ℕ, zero, suc, _-_, _*_, _≤_, _<_}
 use mathlib.Core.Path.{_≡_}
 use mathlib.Core.Option.{Option, none, some}
 use mathlib.Core.List.{List}
+use mathlib.Core.Logic.{_⊎_}
 use mathlib.Core.Bool.{Bool, true, false, cond, _||_}
 use lib.ListN.{length, getD}
 use Rattle.paper.specs.Limits.{block-bytes}
@@ -53,3 +54,8 @@ pub record True-state (H : History) (s : State) (img : List ℕ) : Type 0 where
   pub long : length img ≡ block-bytes * H .blocks
   pub within : s .e ≤ H .last
   pub bytes : (i : ℕ) → i < length img → True-byte H s img i
+
+-- A cut leaves "any mix of old and new bytes": byte by byte, what stood there before or what stands there after.
+pub record Mixed (old new img : List ℕ) : Type 0 where
+  pub long : length img ≡ length old
+  pub bytes : (i : ℕ) → i < length old → (getD img i 0 ≡ getD old i 0) ⊎ (getD img i 0 ≡ getD new i 0)
