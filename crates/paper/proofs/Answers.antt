@@ -89,3 +89,9 @@ neither false b e = (refl, e)
 pub both-true : (a b : Bool) → (a && b) ≡ true → (a ≡ true) × (b ≡ true)
 both-true true b e = (refl, e)
 both-true false b e = absurd (true≢false (sym e))
+
+-- two tests that fail together are the same
+pub same-test : (a b : Bool) → (a ≡ false → b ≡ false) → (b ≡ false → a ≡ false) → a ≡ b
+same-test true true f g = refl
+same-test true false f g = g refl
+same-test false b f g = sym (f refl)

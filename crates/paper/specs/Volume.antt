@@ -1,8 +1,9 @@
 -- 01, "Moves of a volume": decide, apply, run, read-through and lag.
 use Prim.Native.Nat.{ℕ, _+_, _-_, _*_, max, min}
 use mathlib.Core.Option.{Option, none, some}
-use mathlib.Core.List.{List}
-use mathlib.Core.Bool.{Bool, cond, not, _&&_, _||_}
+use mathlib.Core.Path.{_≡_}
+use mathlib.Core.List.{List, [], _∷_}
+use mathlib.Core.Bool.{Bool, false, cond, not, _&&_, _||_}
 use lib.Dec.{leb, ltb, eqb}
 use lib.IntN.{ℤ, pos, _-ℤ_}
 use lib.ListN.{take, drop}
@@ -90,6 +91,22 @@ run d img i k =
     then λ m. guard (names-outside d 0 (h .n) m) Outside
     (guard (ltb (h .n) i) BadStart
     (answer (record { value = run-end h i k; bytes = overlay img (named-by d i (run-end h i k - i)) })))
+
+-- the records of one run: the first, and how many are asked for
+pub record Stretch : Type 0 where
+  pub first : ℕ
+  pub number : ℕ
+
+-- record j lies in one of some runs
+unfoldable pub covers : List Stretch → ℕ → Bool
+covers [] j = false
+covers (r ∷ rs) j = (leb (r .first) j && ltb j (r .first + r .number)) || covers rs j
+
+-- runs of one diff, one after another, each accepted: what they make of an image
+pub data Runs (d : List ℕ) : List Stretch → List ℕ → List ℕ → Type 0 where
+  no-run : {img : List ℕ} → Runs d [] img img
+  one-more : {r : Stretch} {rs : List Stretch} {img end : List ℕ} {w : Wrote ℕ}
+      → run d img (r .first) (r .number) ≡ answer w → Runs d rs (w .bytes) end → Runs d (r ∷ rs) img end
 
 -- ---- read-through
 
