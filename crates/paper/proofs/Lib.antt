@@ -10,5 +10,7 @@ pub mod Runs
 pub mod Views
 pub mod Histories
 pub mod States
+pub mod Saved
 pub mod Decisions
+pub mod Applies
 pub mod Truth

@@ -10,6 +10,12 @@ use Rattle.paper.specs.Number.{Bytes, little, spelled, field}
 
 -- ---- bytes
 
+-- two bytes are bytes
+pub bytes-two : (x y : ℕ) → x < 256 → y < 256 → Bytes (x ∷ y ∷ [])
+bytes-two x y l m zero = l
+bytes-two x y l m (suc zero) = m
+bytes-two x y l m (suc (suc i)) = omega arith
+
 -- bytes after bytes are bytes
 pub bytes-append : (u v : List ℕ) → Bytes u → Bytes v → Bytes (u ++ v)
 bytes-append [] v hu hv i = hv i
