@@ -10,7 +10,9 @@ use lib.Dec.{eqb}
 use borrow.Author.Tests.{eqb-true}
 use lib.ListN.{length, getD, take, drop, length-take, length-drop}
 use lib.Seq.{getD-take, getD-drop, ext-getD}
-use Rattle.paper.specs.Image.{Map, block, each, newer, overlay, same}
+use Rattle.paper.specs.Image.{Map, bad-image, check-image, block, each, newer, overlay, same}
+use Rattle.paper.specs.Answer.{answer, guard, BadImage}
+use Rattle.paper.proofs.Answers.{answer-injective, Passed, guard-answer}
 use Rattle.paper.proofs.Bools.{and-true-left, and-true-right}
 
 pub each-length : (n : ℕ) (f : ℕ → ℕ) → length (each n f) ≡ n
@@ -70,3 +72,13 @@ same-true (x ∷ xs) (y ∷ ys) e =
     let h : x ≡ y = eqb-true x y (and-true-left _ _ e) in
     let t : xs ≡ ys = same-true xs ys (and-true-right (eqb x y) _ e) in
     cc
+
+-- an image that passes has as many whole blocks as are answered
+pub image-blocks : {m : ℕ} (img : List ℕ) → check-image img ≡ answer m → m ≡ length img / 512
+unfolding check-image
+image-blocks img e = sym (answer-injective (guard-answer (bad-image img) BadImage _ e .onward))
+
+-- the image rule looks at the length alone
+pub same-length-image : (x y : List ℕ) → length x ≡ length y → check-image x ≡ check-image y
+unfolding check-image bad-image
+same-length-image x y e = rw e

@@ -1,23 +1,26 @@
 -- One apply keeps a state true. A byte that the diff names becomes that of H(q). One that it does not name was not written from p to q − 1,
 -- so that it is the same in each image from H(b) to H(q); or it is of a later gid, which e still covers.
-use Prim.Native.Nat.{ℕ, suc, _+_, _-_, _*_, _/_, _%_, _≤_, _<_, max}
+use Prim.Native.Nat.{ℕ, suc, _+_, _-_, _*_, _/_, _%_, _≤_, _<_, max, min}
 use mathlib.Core.Path.{_≡_, refl, sym, ap, _∙_}
 use mathlib.Core.Option.{Option, none, some}
-use mathlib.Core.List.{List}
+use mathlib.Core.List.{List, []}
 use mathlib.Core.Bool.{Bool, true, false, cond}
 use mathlib.Core.Logic.{_⊎_, inl, inr}
 use native.Mathlib.Omega.{arith}
-use native.Mathlib.Decide.{decLe}
-use lib.ListN.{length, getD}
+use native.Mathlib.Decide.{decLe, decLt}
+use lib.ListN.{length, getD, drop-of-length-le}
+use lib.Seq.{ext-getD}
+use Rattle.paper.specs.Answer.{answer}
+use Rattle.paper.specs.Merge.{merged}
 use Rattle.paper.specs.Image.{Map, block, newer, overlay, same}
-use Rattle.paper.specs.Diff.{Head, is-compared}
+use Rattle.paper.specs.Diff.{Head, is-compared, check, named}
 use Rattle.paper.specs.State.{State, is-clean}
 use Rattle.paper.specs.Volume.{is-pair-while, while-state, done-state}
 use Rattle.paper.specs.Compare.{differing}
-use Rattle.paper.specs.History.{History, writes-in, logged, true-map, True-byte, of-span, of-b, of-t, True-state, Mixed}
+use Rattle.paper.specs.History.{History, writes-in, logged, true-map, True-diff, True-byte, of-span, of-b, of-t, True-state, Mixed}
 use Rattle.paper.proofs.Bools.{Which, holds, fails, which}
-use Rattle.paper.proofs.Images.{overlay-length, overlay-at, byte-of-block, bytes-of-equal-blocks, same-true}
-use Rattle.paper.proofs.Histories.{unwritten}
+use Rattle.paper.proofs.Images.{overlay-length, overlay-at, block-length, byte-of-block, bytes-of-equal-blocks, same-true}
+use Rattle.paper.proofs.Histories.{unwritten, written-inside, logged-merge}
 use Rattle.paper.proofs.States.{Fits-kind, is-settled, is-span, is-pair, Ordered, ordered, Clean, clean-of}
 use Rattle.paper.proofs.Decisions.{Why, log, from-clean, from-pair, Accepted, Pair-from, was-clean, same-pair, pair-from, pair-top}
 
@@ -139,3 +142,62 @@ module _ (H : History) (h : Head) (s : State) (a : Accepted h s) (f : Fits-kind 
                 let top = pair-top h s a f (pair-from h s a y) in
                 let g : after .gid ≡ h .q = omega (arith, after .from, after .to) in
                 of-t (rw y) (e ∙ after .byte ∙ ap (λ (u : ℕ). getD (H .image u) i 0) g)
+
+-- a state that is clean at g is true of H(g) alone
+pub clean-image : (H : History) (s : State) (img : List ℕ) → True-state H s img → is-clean s ≡ true → s .b ≤ H .last → img ≡ H .image (s .b)
+clean-image H s img t y l =
+    ext-getD 0 img (H .image (s .b)) (t .long ∙ sym (H .long (s .b) l)) (λ i k. go i (t .bytes i k))
+  where
+    c : Clean s
+    c = clean-of s y
+    go : (i : ℕ) → True-byte H s img i → getD img i 0 ≡ getD (H .image (s .b)) i 0
+    go i (of-span k u m n x) =
+        let g : u ≡ s .b = omega (arith, c .ends) in
+        x ∙ ap (λ (v : ℕ). getD (H .image v) i 0) g
+    go i (of-b k x) = x
+    go i (of-t k x) = absurd (omega (arith, c .kind))
+
+-- The merge of two true log diffs of which the second starts at or before the first's end, and ends at or after it, is true.
+pub merged-true : (H : History) (d₀ d₁ d : List ℕ) (h : Head) (t₀ : True-diff H d₀) (t₁ : True-diff H d₁)
+    → is-compared (t₀ .head) ≡ false → is-compared (t₁ .head) ≡ false → t₀ .head .p < t₀ .head .q
+    → t₁ .head .p ≤ t₀ .head .q → t₀ .head .q ≤ t₁ .head .q
+    → check d ≡ answer h → is-compared h ≡ false → h .p ≡ min (t₀ .head .p) (t₁ .head .p) → h .q ≡ t₁ .head .q
+    → ((a : ℕ) → named d a ≡ merged (named d₀) (named d₁) a) → True-diff H d
+unfolding true-map merged
+merged-true H d₀ d₁ d h t₀ t₁ c₀ c₁ l₀ l₁ l₂ e c p q m = record { head = h; sound = e; within = rw q (t₁ .within); names = names }
+  where
+    names : (a : ℕ) → named d a ≡ true-map H h a
+    names a =
+        m a
+        ∙ rw (t₀ .names a, t₁ .names a, c₀, c₁, c, p, q)
+        (logged-merge H (t₀ .head .p) (t₀ .head .q) (t₁ .head .p) (t₁ .head .q) (omega arith) l₁ l₂ (t₁ .within) a)
+
+-- a true diff names no block outside the history's images
+pub true-inside : (H : History) (d : List ℕ) (t : True-diff H d) → t .head .p < t .head .q → (a : ℕ) (c : List ℕ) → named d a ≡ some c → a < H .blocks
+unfolding true-map logged differing same
+true-inside H d t l a c e = go (which (is-compared (t .head))) (sym (t .names a) ∙ e)
+  where
+    h : Head
+    h = t .head
+
+    none-some : none ≡ some c → a < H .blocks
+    none-some z = let zero-one : _≡_ {A = ℕ} 0 1 = cc in absurd (omega arith)
+
+    by-log : Which (writes-in H (h .p) (h .q - h .p) a) → logged H (h .p) (h .q) a ≡ some c → a < H .blocks
+    by-log (holds y) z = written-inside H (h .q - h .p) (h .p) (h .q) a (omega arith) (t .within) y
+    by-log (fails y) z = none-some (rw y at z)
+
+    past-end : (g : ℕ) → g ≤ H .last → H .blocks ≤ a → block (H .image g) a ≡ []
+    past-end g k m = drop-of-length-le (block (H .image g) a) {i = 0} (rw (block-length, H .long g k) (omega arith))
+
+    by-compared : differing (H .image (h .p)) (H .image (h .q)) a ≡ some c → a < H .blocks
+    by-compared z =
+        elim (decLt a (H .blocks)) [
+          yes k ↦ k
+        | no k ↦
+            let m : H .blocks ≤ a = omega arith in
+            none-some (rw (past-end (h .p) (omega (arith, t .within)) m, past-end (h .q) (t .within) m) at z) ]
+
+    go : Which (is-compared (t .head)) → true-map H (t .head) a ≡ some c → a < H .blocks
+    go (holds y) z = by-compared (rw y at z)
+    go (fails y) z = by-log (which (writes-in H (h .p) (h .q - h .p) a)) (rw y at z)

@@ -9,20 +9,16 @@ use lib.Dec.{leb}
 use lib.ListN.{length, take, drop}
 use lib.Seq.{drop-drop}
 use borrow.Author.Tests.{leb-false}
-use Rattle.paper.specs.Answer.{Said, answer, guard, _then_, Outside, BadImage}
-use Rattle.paper.specs.Image.{bad-image, check-image, block, overlay}
+use Rattle.paper.specs.Answer.{Said, answer, guard, _then_, Outside}
+use Rattle.paper.specs.Image.{check-image, block, overlay}
 use Rattle.paper.specs.Diff.{Head, rest, content-of, check, seek, named-by, named, names-outside}
 use Rattle.paper.specs.Volume.{View, in-diff, in-image, shown, view-of, read-through}
 use Rattle.paper.proofs.Bools.{or-false-right}
 use Rattle.paper.proofs.Answers.{answer-injective, Passed, guard-answer, Both, then-answer}
+use Rattle.paper.proofs.Images.{image-blocks}
 use Rattle.paper.proofs.Overlay.{unnamed-stays, named-becomes}
 use Rattle.paper.proofs.Check.{Sound, sound}
 use Rattle.paper.proofs.Names.{seek-sound, Fits, sound-fits}
-
--- an image that passes has as many whole blocks as are answered
-pub image-blocks : {m : ℕ} (img : List ℕ) → check-image img ≡ answer m → m ≡ length img / 512
-unfolding check-image
-image-blocks img e = sym (answer-injective (guard-answer (bad-image img) BadImage _ e .onward))
 
 -- the content of record i, by its place in the diff
 content-place : (d : List ℕ) (i : ℕ) → take 512 (drop (24 + 518 * i + 6) d) ≡ content-of (rest d i)

@@ -1,0 +1,3 @@
+-- Why it holds.
+pub mod Moves
+pub mod Cuts

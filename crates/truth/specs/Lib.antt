@@ -1,0 +1,2 @@
+-- What is promised of a volume over time.
+pub mod Story
