@@ -14,3 +14,4 @@ pub mod Saved
 pub mod Decisions
 pub mod Applies
 pub mod Truth
+pub mod Rows
