@@ -1,6 +1,6 @@
 -- What an answer says of the checks before it: each was passed. A chain of checks answers only where none of them refused.
 use Prim.Native.Nat.{ℕ, _≤_}
-use mathlib.Core.Path.{_≡_, refl, sym}
+use mathlib.Core.Path.{_≡_, refl, sym, _∙_}
 use mathlib.Core.List.{List, append-nil}
 use mathlib.Core.Bool.{Bool, true, false, _&&_, _||_, true≢false}
 use lib.Dec.{ltb}
@@ -67,6 +67,11 @@ output-answer w room e = of (guard-answer (ltb room (length w)) NoRoom _ e)
 pub output-fits : (w : List ℕ) (room : ℕ) → length w ≤ room → output w room ≡ answer (record { value = length w; bytes = w })
 unfolding output
 output-fits w room h = guard-passes NoRoom _ (le-ltb room (length w) h)
+
+-- and so whatever says the same is its answer
+pub output-passes : {w : List ℕ} {room : ℕ} {v : Wrote ℕ} → Output w room v → output w room ≡ answer v
+output-passes {w} {room} o =
+    output-fits w room (o .fits) ∙ λ i. answer (record { value = sym (o .value) i; bytes = sym (o .bytes) i })
 
 -- an output as long as the lent slice is all that the slice then holds
 pub over-all : {A : Type 0} (old : List ℕ) (w : Wrote A) → length (w .bytes) ≡ length old → over old (answer w) ≡ w .bytes

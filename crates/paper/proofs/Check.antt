@@ -200,14 +200,18 @@ sound {d} {h} e = of (then-answer (read-head d) _ e)
         let walked : check-records d 0 (c .first .n) 0 ≡ answer tt = r .answered in
         of-records (headed (rw same at (c .answered))) (rw same at long) (rw same at walked)
 
+-- a head that passed, the length that it says, and records that pass are all that is asked
+pub check-answers : {d : List ℕ} {h : Head} → Headed d h → length d ≡ diff-size h → check-records d 0 (h .n) 0 ≡ answer tt → check d ≡ answer h
+unfolding check
+check-answers {d} {h} c long walked =
+    rw (headed-passes c, le-ltb (length d) (diff-size h) (omega arith), le-ltb (diff-size h) (length d) (omega arith), walked)
+
 -- a sound diff passes
 pub passes : {d : List ℕ} {h : Head} → Sound d h → check d ≡ answer h
-unfolding check
 passes {d} {h} s =
     let long = s .long in
     let c : Headed d h = record { head = s .head; room = omega arith; mark = s .mark; good = s .good; few = s .few } in
-    let r : Records-sound d 0 (h .n) 0 = record {
+    check-answers c long (records-pass d 0 (h .n) 0 (record {
       each = λ j a b. record { mark = s .marks j (omega arith); small = s .low j (omega arith); above = omega arith };
       rising = λ j l a b c. s .rising j l b (omega arith);
-    } in
-    rw (headed-passes c, le-ltb (length d) (diff-size h) (omega arith), le-ltb (diff-size h) (length d) (omega arith), records-pass d 0 (h .n) 0 r)
+    }))

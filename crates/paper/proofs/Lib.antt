@@ -4,7 +4,9 @@ pub mod Bools
 pub mod Numbers
 pub mod Images
 pub mod Check
+pub mod Parts
 pub mod Names
+pub mod Meaning
 pub mod Overlay
 pub mod Runs
 pub mod Views

@@ -101,12 +101,44 @@ pub named-by-none : (d : List ℕ) (i k a : ℕ) → ((j : ℕ) → Sought d a i
 unfolding named-by
 named-by-none d i k a no-record = rw (seek-none d a i k no-record)
 
--- ---- the map of a sound diff
+-- the first record names its address
+pub named-by-here : (d : List ℕ) (i k a : ℕ) → address-of (rest d i) ≡ a → named-by d i (suc k) a ≡ some (content-of (rest d i))
+unfolding named-by seek
+named-by-here d i k a here = rw (eq-eqb (address-of (rest d i)) a here)
+
+-- any other address is named by the records after it
+pub named-by-later : (d : List ℕ) (i k a : ℕ) → (address-of (rest d i) ≡ a → ⊥) → named-by d i (suc k) a ≡ named-by d (suc i) k a
+unfolding named-by seek
+named-by-later d i k a not-here = rw (ne-eqb (address-of (rest d i)) a not-here)
+
+-- ---- maps
+
+-- A map names block a, or does not.
+pub data Seen (f : Map) (a : ℕ) : Type 0 where
+  unnamed : f a ≡ none → Seen f a
+  named-as : (c : List ℕ) → f a ≡ some c → Seen f a
+
+-- one of the two is so
+pub seen : (f : Map) (a : ℕ) → Seen f a
+seen f a = go (f a) refl
+  where
+    go : (o : Option (List ℕ)) → f a ≡ o → Seen f a
+    go none e = unnamed e
+    go (some c) e = named-as c e
 
 -- A map that a diff can mean: of blocks that an image can have, each with a block's content.
 pub record Fits (f : Map) : Type 0 where
   pub within : (a : ℕ) (c : List ℕ) → f a ≡ some c → a < max-blocks
   pub whole : (a : ℕ) (c : List ℕ) → f a ≡ some c → length c ≡ block-bytes
+
+-- such a map names nothing beyond
+pub beyond : {f : Map} → Fits f → (a : ℕ) → max-blocks ≤ a → f a ≡ none
+beyond {f} fits a l = elim (seen f a) [
+  | unnamed e ↦ e
+  | named-as c e ↦ absurd (omega (arith, fits .within a c e))
+]
+
+-- ---- the map of a sound diff
 
 module _ {d : List ℕ} {h : Head} (s : Sound d h) where
   -- a record's content is a whole block
