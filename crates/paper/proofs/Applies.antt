@@ -36,9 +36,17 @@ decides d state img e =
     let c₅ = decided (c₁ .first) (c₂ .first) _ (c₄ .onward) in
     record {
       applies = record {
-        head = c₁ .first; from = c₂ .first; blocks = c₃ .first;
-        diff = c₁ .answered; reads = c₂ .answered; image = c₃ .answered; inside = c₄ .clear; accepted = c₅ .accepted };
-      gives = c₅ .gives }
+        head = c₁ .first;
+        from = c₂ .first;
+        blocks = c₃ .first;
+        diff = c₁ .answered;
+        reads = c₂ .answered;
+        image = c₃ .answered;
+        inside = c₄ .clear;
+        accepted = c₅ .accepted;
+      };
+      gives = c₅ .gives;
+    }
 
 pub decide-accepts : (d state img : List ℕ) (a : Applies d state img) → decide d state img ≡ answer (further (a .head) (a .from))
 unfolding decide

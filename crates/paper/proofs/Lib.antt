@@ -16,4 +16,12 @@ pub mod Saved
 pub mod Decisions
 pub mod Applies
 pub mod Truth
+pub mod Order
+pub mod Count
+pub mod Lowest
+pub mod Step
+pub mod Plans
+pub mod Walk
+pub mod Marks
+pub mod Planner
 pub mod Rows

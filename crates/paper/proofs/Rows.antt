@@ -9,7 +9,7 @@ use Rattle.paper.specs.Number.{little, spelled, field, opens}
 use Rattle.paper.specs.Answer.{Said, answer, refuse, Behind, Gap, Short, NotExact}
 use Rattle.paper.specs.Image.{bad-image, check-image}
 use Rattle.paper.specs.Diff.{Head, head-of, head-bytes, bad-head, check-head, check-records, read-head, check, names-outside}
-use Rattle.paper.specs.State.{State, settled, clean, span, pair, is-clean, fits-kind, bad-state, state-of, state-bytes, read-state}
+use Rattle.paper.specs.State.{State, settled, clean, span, pair, is-clean, fits-kind, bad-state, state-of, state-bytes, bad-record, read-state}
 use Rattle.paper.specs.Volume.{exact, is-pair-while, while-state, done-state, Further, decide-on, decide, lag}
 
 pub log : ℕ → ℕ → Head
@@ -34,18 +34,18 @@ row s h a = record { state = s; diff = h; said = a }
 -- the table
 pub table : List Row
 table =
-    row (clean 7) (log 5 9) (both (pair 7 9) (clean 9)) -- P1
-    ∷ row (clean 7) (log 8 9) (refuse Gap) -- P2
-    ∷ row (clean 7) (log 3 7) (refuse Behind) -- P3
-    ∷ row (clean 7) (compared 7 9) (both (pair 7 9) (clean 9)) -- P4
-    ∷ row (clean 7) (compared 5 9) (refuse NotExact) -- P5
-    ∷ row (clean 7) (compared 5 7) (refuse Behind) -- P6
-    ∷ row (settled 4 10) (log 4 8) (both (span 4 8 10) (settled 8 10)) -- P7
-    ∷ row (settled 4 10) (log 2 10) (both (span 4 10 10) (clean 10)) -- P8
-    ∷ row (pair 7 9) (log 5 8) (refuse Short) -- P9
-    ∷ row (pair 7 12) (log 8 10) (refuse Gap) -- P10
-    ∷ row (pair 7 9) (compared 7 10) (refuse NotExact) -- P11
-    ∷ row (pair 7 9) (log 7 9) (both (span 7 9 9) (clean 9)) -- P12
+    row (clean 7) (log 5 9) (both (pair 7 9) (clean 9))  -- P1
+    ∷ row (clean 7) (log 8 9) (refuse Gap)  -- P2
+    ∷ row (clean 7) (log 3 7) (refuse Behind)  -- P3
+    ∷ row (clean 7) (compared 7 9) (both (pair 7 9) (clean 9))  -- P4
+    ∷ row (clean 7) (compared 5 9) (refuse NotExact)  -- P5
+    ∷ row (clean 7) (compared 5 7) (refuse Behind)  -- P6
+    ∷ row (settled 4 10) (log 4 8) (both (span 4 8 10) (settled 8 10))  -- P7
+    ∷ row (settled 4 10) (log 2 10) (both (span 4 10 10) (clean 10))  -- P8
+    ∷ row (pair 7 9) (log 5 8) (refuse Short)  -- P9
+    ∷ row (pair 7 12) (log 8 10) (refuse Gap)  -- P10
+    ∷ row (pair 7 9) (compared 7 10) (refuse NotExact)  -- P11
+    ∷ row (pair 7 9) (log 7 9) (both (span 7 9 9) (clean 9))  -- P12
     ∷ []
 
 -- an image of one block
@@ -60,7 +60,7 @@ Every (r ∷ rs) = (decide (head-bytes (r .diff)) (state-bytes (r .state)) one-b
 -- P1 to P12
 pub night-book : Every table
 unfolding table row log compared both one-block decide check read-head opens head-bytes head-of check-head bad-head field little spelled check-records
-  state-bytes read-state state-of bad-state fits-kind is-clean check-image bad-image names-outside decide-on exact is-pair-while while-state done-state
+    state-bytes read-state bad-record state-of bad-state fits-kind is-clean check-image bad-image names-outside decide-on exact is-pair-while while-state done-state
 night-book = (refl, (refl, (refl, (refl, (refl, (refl, (refl, (refl, (refl, (refl, (refl, (refl, tt))))))))))))
 
 -- "The empty log diff from 5 to 9, whole"
@@ -81,5 +81,5 @@ empty-log-written = refl
 
 -- "Lag at clean 7 for target 9: −2."
 pub lag-row : lag (state-bytes (clean 7)) 9 ≡ answer (negsuc 1)
-unfolding lag read-state state-bytes state-of opens field little spelled bad-state fits-kind
+unfolding lag read-state bad-record state-bytes state-of opens field little spelled bad-state fits-kind
 lag-row = refl

@@ -72,7 +72,7 @@ module _ {d : List ℕ} {h : Head} (s : Sound d h) where
 
   -- a run that covers record j names its block
   run-covers : (r : Stretch) (j : ℕ) → j < h .n → (leb (r .first) j && ltb j (r .first + r .number)) ≡ true
-    → run-map r (address-of (rest d j)) ≡ some (content-of (rest d j))
+      → run-map r (address-of (rest d j)) ≡ some (content-of (rest d j))
   unfolding run-map
   run-covers r j l c =
       let low : r .first ≤ j = leb-true _ _ (and-true-left _ _ c) in
@@ -81,13 +81,13 @@ module _ {d : List ℕ} {h : Head} (s : Sound d h) where
 
   -- byte i of an image after one run: what the diff's map gives, or what stood there
   run-byte : {w : Wrote ℕ} (img : List ℕ) (r : Stretch) → run d img (r .first) (r .number) ≡ answer w → (i : ℕ) → i < length img
-    → (getD (w .bytes) i 0 ≡ getD img i 0) ⊎ (getD (w .bytes) i 0 ≡ newer (named d (i / 512)) (i % 512) (getD img i 0))
+      → (getD (w .bytes) i 0 ≡ getD img i 0) ⊎ (getD (w .bytes) i 0 ≡ newer (named d (i / 512)) (i % 512) (getD img i 0))
   run-byte {w} img r e i l =
       let (b, p) = run-gives img r e in
       go b (p (i / 512))
     where
       go : w .bytes ≡ overlay img (run-map r) → (run-map r (i / 512) ≡ none) ⊎ (run-map r (i / 512) ≡ named d (i / 512))
-        → (getD (w .bytes) i 0 ≡ getD img i 0) ⊎ (getD (w .bytes) i 0 ≡ newer (named d (i / 512)) (i % 512) (getD img i 0))
+          → (getD (w .bytes) i 0 ≡ getD img i 0) ⊎ (getD (w .bytes) i 0 ≡ newer (named d (i / 512)) (i % 512) (getD img i 0))
       go b (inl n) = inl (rw (b, overlay-at img (run-map r) i l, n))
       go b (inr n) = inr (rw (b, overlay-at img (run-map r) i l, n))
 
@@ -110,7 +110,7 @@ module _ {d : List ℕ} {h : Head} (s : Sound d h) where
 
   -- a byte that is new stays new
   runs-new : {rs : List Stretch} {img end : List ℕ} (i : ℕ) (c : List ℕ) → i < length img → named d (i / 512) ≡ some c → getD img i 0 ≡ getD c (i % 512) 0
-    → Runs d rs img end → getD end i 0 ≡ getD c (i % 512) 0
+      → Runs d rs img end → getD end i 0 ≡ getD c (i % 512) 0
   runs-new i c l n x no-run = x
   runs-new {img = img} i c l n x (one-more {r = r} {w = w} e rs) =
       runs-new i c (rw (run-length img r e) l) n (stays (run-byte img r e i l)) rs
@@ -121,14 +121,14 @@ module _ {d : List ℕ} {h : Head} (s : Sound d h) where
 
   -- a byte of a record that is covered is new
   runs-covered : {rs : List Stretch} {img end : List ℕ} (i j : ℕ) → i < length img → j < h .n → address-of (rest d j) ≡ i / 512 → covers rs j ≡ true
-    → Runs d rs img end → getD end i 0 ≡ getD (content-of (rest d j)) (i % 512) 0
+      → Runs d rs img end → getD end i 0 ≡ getD (content-of (rest d j)) (i % 512) 0
   unfolding covers
   runs-covered i j l m a c no-run = absurd (false≢true c)
   runs-covered {rs = r₀ ∷ rs₀} {img = img} {end = end} i j l m a c (one-more {r = r} {rs = rs} {w = w} e more) =
       go (which (leb (r .first) j && ltb j (r .first + r .number))) c (λ c′. runs-covered i j (rw (run-length img r e) l) m a c′ more)
     where
       go : Which (leb (r .first) j && ltb j (r .first + r .number)) → ((leb (r .first) j && ltb j (r .first + r .number)) || covers rs j) ≡ true
-        → (covers rs j ≡ true → getD end i 0 ≡ getD (content-of (rest d j)) (i % 512) 0) → getD end i 0 ≡ getD (content-of (rest d j)) (i % 512) 0
+          → (covers rs j ≡ true → getD end i 0 ≡ getD (content-of (rest d j)) (i % 512) 0) → getD end i 0 ≡ getD (content-of (rest d j)) (i % 512) 0
       go (fails n) c′ later = later (rw n at c′)
       go (holds y) c′ later =
           let k = run-covers r j m y in
@@ -150,7 +150,7 @@ module _ {d : List ℕ} {h : Head} (s : Sound d h) where
 
   -- A cut in the middle of a run leaves a mix of what stood before all runs and what stands after the apply.
   pub cut-run-mixed : {w : Wrote ℕ} (img mid now : List ℕ) (r : Stretch) → Mixed img (overlay img (named d)) mid → run d mid (r .first) (r .number) ≡ answer w
-    → Mixed mid (w .bytes) now → Mixed img (overlay img (named d)) now
+      → Mixed mid (w .bytes) now → Mixed img (overlay img (named d)) now
   cut-run-mixed {w} img mid now r m e c = record { long = c .long ∙ m .long; bytes = bytes }
     where
       bytes : (i : ℕ) → i < length img → (getD now i 0 ≡ getD img i 0) ⊎ (getD now i 0 ≡ getD (overlay img (named d)) i 0)
@@ -158,18 +158,22 @@ module _ {d : List ℕ} {h : Head} (s : Sound d h) where
         where
           l′ : i < length mid
           l′ = omega (arith, m .long)
+
           of-mid : getD now i 0 ≡ getD mid i 0 → (getD mid i 0 ≡ getD img i 0) ⊎ (getD mid i 0 ≡ getD (overlay img (named d)) i 0)
-            → (getD now i 0 ≡ getD img i 0) ⊎ (getD now i 0 ≡ getD (overlay img (named d)) i 0)
+              → (getD now i 0 ≡ getD img i 0) ⊎ (getD now i 0 ≡ getD (overlay img (named d)) i 0)
           of-mid x (inl y) = inl (x ∙ y)
           of-mid x (inr y) = inr (x ∙ y)
+
           of-new : getD now i 0 ≡ newer (named d (i / 512)) (i % 512) (getD mid i 0) → (o : Option (List ℕ)) → named d (i / 512) ≡ o
-            → (getD now i 0 ≡ getD img i 0) ⊎ (getD now i 0 ≡ getD (overlay img (named d)) i 0)
+              → (getD now i 0 ≡ getD img i 0) ⊎ (getD now i 0 ≡ getD (overlay img (named d)) i 0)
           of-new x none n = of-mid (x ∙ rw n) (m .bytes i l)
           of-new x (some z) n = inr (x ∙ rw (overlay-at img (named d) i l, n))
+
           of-run : getD now i 0 ≡ getD (w .bytes) i 0 → (getD (w .bytes) i 0 ≡ getD mid i 0) ⊎ (getD (w .bytes) i 0 ≡ newer (named d (i / 512)) (i % 512) (getD mid i 0))
-            → (getD now i 0 ≡ getD img i 0) ⊎ (getD now i 0 ≡ getD (overlay img (named d)) i 0)
+              → (getD now i 0 ≡ getD img i 0) ⊎ (getD now i 0 ≡ getD (overlay img (named d)) i 0)
           of-run x (inl y) = of-mid (x ∙ y) (m .bytes i l)
           of-run x (inr y) = of-new (x ∙ y) (named d (i / 512)) refl
+
           of-cut : (getD now i 0 ≡ getD mid i 0) ⊎ (getD now i 0 ≡ getD (w .bytes) i 0) → (getD now i 0 ≡ getD img i 0) ⊎ (getD now i 0 ≡ getD (overlay img (named d)) i 0)
           of-cut (inl x) = of-mid x (m .bytes i l)
           of-cut (inr x) = of-run x (run-byte mid r e i l′)

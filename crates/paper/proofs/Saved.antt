@@ -9,7 +9,7 @@ use lib.ListN.{length, getD, length-append}
 use Rattle.paper.specs.Limits.{max-gid, state-size, state-mark}
 use Rattle.paper.specs.Number.{spelled, field, opens}
 use Rattle.paper.specs.Answer.{Said, answer, guard, BadState}
-use Rattle.paper.specs.State.{State, bad-state, state-of, state-bytes, read-state}
+use Rattle.paper.specs.State.{State, bad-state, state-of, state-bytes, bad-record, read-state}
 use Rattle.paper.proofs.Bools.{or-false-right}
 use Rattle.paper.proofs.Answers.{answer-injective, Passed, guard-answer}
 use Rattle.paper.proofs.Numbers.{spelled-length, field-at}
@@ -17,9 +17,9 @@ use Rattle.paper.proofs.States.{Fits-kind, is-settled, is-span, is-pair
 
 -- a state that is read is good
 pub read-good : {s : State} (r : List ℕ) → read-state r ≡ answer s → Good-state s
-unfolding read-state
+unfolding read-state bad-record
 read-good {s} r e =
-    let c = guard-answer (not (eqb (length r) state-size) || not (opens r state-mark) || not (eqb (getD r 3 0) 0) || bad-state (state-of r)) BadState _ e in
+    let c = guard-answer (bad-record r) BadState _ e in
     let g = good-of (state-of r) (or-false-right (not (eqb (length r) state-size) || not (opens r state-mark) || not (eqb (getD r 3 0) 0)) _ (c .clear)) in
     rw (answer-injective (c .onward)) at g
 
@@ -43,5 +43,5 @@ state-back s g =
 
 -- a good state is read back from its record
 pub saved-reads : (s : State) → Good-state s → read-state (state-bytes s) ≡ answer s
-unfolding read-state opens
+unfolding read-state bad-record opens
 saved-reads s g = rw (state-length s, state-back s g, good-back s g, state-parts s)

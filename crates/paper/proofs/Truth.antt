@@ -150,6 +150,7 @@ clean-image H s img t y l =
   where
     c : Clean s
     c = clean-of s y
+
     go : (i : ℕ) → True-byte H s img i → getD img i 0 ≡ getD (H .image (s .b)) i 0
     go i (of-span k u m n x) =
         let g : u ≡ s .b = omega (arith, c .ends) in
@@ -193,10 +194,11 @@ true-inside H d t l a c e = go (which (is-compared (t .head))) (sym (t .names a)
     by-compared : differing (H .image (h .p)) (H .image (h .q)) a ≡ some c → a < H .blocks
     by-compared z =
         elim (decLt a (H .blocks)) [
-          yes k ↦ k
-        | no k ↦
-            let m : H .blocks ≤ a = omega arith in
-            none-some (rw (past-end (h .p) (omega (arith, t .within)) m, past-end (h .q) (t .within) m) at z) ]
+          | yes k ↦ k
+          | no k ↦
+              let m : H .blocks ≤ a = omega arith in
+              none-some (rw (past-end (h .p) (omega (arith, t .within)) m, past-end (h .q) (t .within) m) at z)
+        ]
 
     go : Which (is-compared (t .head)) → true-map H (t .head) a ≡ some c → a < H .blocks
     go (holds y) z = by-compared (rw y at z)

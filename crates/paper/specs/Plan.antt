@@ -43,13 +43,21 @@ follow shelf (i ∷ places) s =
     guard (leb (shelf .count) i) NoChain
     (decide-on (entry shelf i) s then λ f. follow shelf places (f .done))
 
+-- "clean at the target"
+unfoldable pub at-target : State → ℕ → Bool
+at-target s target = is-clean s && eqb (s .b) target
+
 -- "the end is clean at the target"
-abbrev pub clean-at : ℕ → Said State → Bool
-clean-at target (answer s) = is-clean s && eqb (s .b) target
-clean-at target (refuse k) = false
+abbrev pub ends-at : Said State → ℕ → Bool
+ends-at (answer s) target = at-target s target
+ends-at (refuse k) target = false
 
 unfoldable pub is-plan : Shelf → State → ℕ → List ℕ → Bool
-is-plan shelf s target places = clean-at target (follow shelf places s)
+is-plan shelf s target places = ends-at (follow shelf places s) target
+
+-- "no list as defined below", of any length
+abbrev pub No-plan : Shelf → State → ℕ → Type 0
+No-plan shelf s target = (places : List ℕ) → is-plan shelf s target places ≡ false
 
 -- "dictionary order of places"
 unfoldable pub before : List ℕ → List ℕ → Bool
@@ -68,8 +76,7 @@ pub data Plan-says (shelf : Shelf) (state : List ℕ) (target : ℕ) : Said (Lis
   refused : {k : ℕ} → plan-checks shelf state target ≡ refuse k → Plan-says shelf state target (refuse k)
   listed : {s : State} {places : List ℕ} → plan-checks shelf state target ≡ answer s → First shelf s target places
       → Plan-says shelf state target (answer places)
-  no-chain : {s : State} → plan-checks shelf state target ≡ answer s → ((places : List ℕ) → is-plan shelf s target places ≡ false)
-      → Plan-says shelf state target (refuse NoChain)
+  no-chain : {s : State} → plan-checks shelf state target ≡ answer s → No-plan shelf s target → Plan-says shelf state target (refuse NoChain)
 
 -- "The answer has a length and a fixed number of places; those past the length hold 0." It keeps the shelf that it was made for, blank past the count.
 pub record Plan : Type 0 where

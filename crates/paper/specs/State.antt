@@ -52,12 +52,11 @@ unfoldable pub state-bytes : State → List ℕ
 state-bytes s = state-mark ++ s .kind ∷ 0 ∷ spelled 8 (s .b) ++ spelled 8 (s .t) ++ spelled 8 (s .e)
 
 -- BadState: "state not 28 bytes, wrong mark, spare byte, kind, gid too large, or gids against the kind"
+unfoldable pub bad-record : List ℕ → Bool
+bad-record r = not (eqb (length r) state-size) || not (opens r state-mark) || not (eqb (getD r 3 0) 0) || bad-state (state-of r)
+
 unfoldable pub read-state : List ℕ → Said State
-read-state r =
-    guard
-    (not (eqb (length r) state-size) || not (opens r state-mark) || not (eqb (getD r 3 0) 0) || bad-state (state-of r))
-    BadState
-    (answer (state-of r))
+read-state r = guard (bad-record r) BadState (answer (state-of r))
 
 -- "A state is also written out as its record (BadState, then NoRoom)."
 unfoldable pub write-state : State → ℕ → Said (Wrote ℕ)

@@ -45,10 +45,12 @@ module _ (H : History) (d : List ℕ) (t : True-diff H d) (v : Volume) (true-v :
     where
       pair-again : is-compared (t .head) ≡ true → t .head .p ≡ s .b → x .is-true .head ≡ t .head → Why (x .is-true .head) (while-state (t .head) s)
       pair-again k p e = rw e (from-pair k p (rw k) refl)
+
       same : x .is-true .head ≡ t .head → Why (t .head) s → Why (x .is-true .head) (while-state (t .head) s)
       same e (log k) = log (rw e k)
       same e (from-clean k p z) = pair-again k p e
       same e (from-pair k p z q) = pair-again k p e
+
       go : (is-compared (x .is-true .head) ≡ false) ⊎ (x .is-true .head ≡ t .head) → Why (x .is-true .head) (while-state (t .head) s)
       go (inl k) = log k
       go (inr e) = same e (accepted .why)
@@ -60,7 +62,8 @@ module _ (H : History) (d : List ℕ) (t : True-diff H d) (v : Volume) (true-v :
         ahead = omega (arith, accepted .ahead, x .ends);
         meets = omega (arith, accepted .meets, x .starts);
         long = x .ends;
-        why = why w x }
+        why = why w x;
+      }
 
   -- a wider diff is accepted by the volume that the cut leaves
   pub wider-accepted : (w : List ℕ) → Wider H (t .head) w → Is-accepted w y
@@ -74,10 +77,18 @@ module _ (H : History) (d : List ℕ) (t : True-diff H d) (v : Volume) (true-v :
       let u = x .is-true in
       let good = good-head (sound (u .sound) .good) in
       let inside : names-outside w 0 (u .head .n) (a .blocks) ≡ false =
-        outside-names (sound (u .sound)) (a .blocks) .1 (λ b k e. rw blocks (true-inside H w u (good .grows) b k e)) in
+      outside-names (sound (u .sound)) (a .blocks) .1 (λ b k e. rw blocks (true-inside H w u (good .grows) b k e)) in
       record {
         states = _;
         decides = decide-accepts w (y .saved) (y .image)
-          (record {
-            head = u .head; from = while-state (t .head) s; blocks = a .blocks;
-            diff = u .sound; reads = cut-reads H d t v true-v c; image = whole; inside = inside; accepted = at-while w x }) }
+            (record {
+              head = u .head;
+              from = while-state (t .head) s;
+              blocks = a .blocks;
+              diff = u .sound;
+              reads = cut-reads H d t v true-v c;
+              image = whole;
+              inside = inside;
+              accepted = at-while w x;
+            });
+      }

@@ -40,7 +40,8 @@ cut-leaves {v = v} c (cut-run {f} {mid = mid} {now = now} r e rs one m) =
       states = f;
       decides = e;
       saved = refl;
-      mixed = cut-run-mixed (sound c) (v .image) mid now r (runs-mixed (sound c) (all-old _ _) rs) one m }
+      mixed = cut-run-mixed (sound c) (v .image) mid now r (runs-mixed (sound c) (all-old _ _) rs) one m;
+    }
 
 -- a finished apply leaves the new image, and Done saved
 pub record Finish-leaves (d : List ℕ) (v w : Volume) : Type 0 where
@@ -91,7 +92,8 @@ module _ (H : History) (d : List ℕ) (t : True-diff H d) (v : Volume) (true-v :
       record {
         state = while-state (t .head) s;
         reads = cut-reads c;
-        holds = while-true H (t .head) s a (state-good .fits) (t .within) (named d) (t .names) (v .image) (true-v .holds) (w .image) (c .mixed) }
+        holds = while-true H (t .head) s a (state-good .fits) (t .within) (named d) (t .names) (v .image) (true-v .holds) (w .image) (c .mixed);
+      }
 
   pub finish-true : {w : Volume} → Finish-leaves d v w → True-volume H w
   finish-true {w} c =
@@ -101,7 +103,8 @@ module _ (H : History) (d : List ℕ) (t : True-diff H d) (v : Volume) (true-v :
       record {
         state = done-state (t .head) s;
         reads = rw (c .saved, g) (saved-reads _ good);
-        holds = rw (c .written) (done-true H (t .head) s a (state-good .fits) (t .within) (named d) (t .names) (v .image) (true-v .holds)) }
+        holds = rw (c .written) (done-true H (t .head) s a (state-good .fits) (t .within) (named d) (t .names) (v .image) (true-v .holds));
+      }
 
   pub move-true : {w : Volume} → Move d v w → True-volume H w
   move-true (finished f) = finish-true (finish-leaves (t .sound) f)

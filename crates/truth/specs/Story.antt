@@ -27,32 +27,32 @@ pub record True-volume (H : History) (v : Volume) : Type 0 where
 pub data Have (Given : List ℕ → Type 0) : List ℕ → Type 0 where
   given : {d : List ℕ} → Given d → Have Given d
   by-merge : {first second : List ℕ} {w : Wrote ℕ} (room : ℕ) → Have Given first → Have Given second → merge first second room ≡ answer w
-    → Have Given (w .bytes)
+      → Have Given (w .bytes)
 
 -- a diff in which d is contained: d itself, or a merge of one that contains it, however nested
 pub data Contains (Given : List ℕ → Type 0) (d : List ℕ) : List ℕ → Type 0 where
   itself : Contains Given d d
   as-first : {first second : List ℕ} {w : Wrote ℕ} (room : ℕ) → Contains Given d first → Have Given second → merge first second room ≡ answer w
-    → Contains Given d (w .bytes)
+      → Contains Given d (w .bytes)
   as-second : {first second : List ℕ} {w : Wrote ℕ} (room : ℕ) → Have Given first → Contains Given d second → merge first second room ≡ answer w
-    → Contains Given d (w .bytes)
+      → Contains Given d (w .bytes)
 
 -- An accepted apply that is cut: "the While state was saved whole before the first byte moved", and then any mix of old and new bytes.
 -- Where it is done in runs, some runs are over, and one more is cut.
 pub data Cut (d : List ℕ) (v : Volume) : Volume → Type 0 where
   cut-apply : {f : Further} {now : List ℕ} → decide d (v .saved) (v .image) ≡ answer f → Mixed (v .image) (overlay (v .image) (named d)) now
-    → Cut d v (record { saved = state-bytes (f .while); image = now })
+      → Cut d v (record { saved = state-bytes (f .while); image = now })
   cut-run : {f : Further} {w : Wrote ℕ} {rs : List Stretch} {mid now : List ℕ} (r : Stretch) → decide d (v .saved) (v .image) ≡ answer f
-    → Runs d rs (v .image) mid → run d mid (r .first) (r .number) ≡ answer w → Mixed mid (w .bytes) now
-    → Cut d v (record { saved = state-bytes (f .while); image = now })
+      → Runs d rs (v .image) mid → run d mid (r .first) (r .number) ≡ answer w → Mixed mid (w .bytes) now
+      → Cut d v (record { saved = state-bytes (f .while); image = now })
 
 -- An accepted apply that is finished, at once or in runs that between them cover all records: "Done only after the last" byte.
 pub data Finish (d : List ℕ) (v : Volume) : Volume → Type 0 where
   at-once : {w : Wrote State} → apply d (v .saved) (v .image) ≡ answer w
-    → Finish d v (record { saved = state-bytes (w .value); image = w .bytes })
+      → Finish d v (record { saved = state-bytes (w .value); image = w .bytes })
   in-runs : {f : Further} {rs : List Stretch} {end : List ℕ} → decide d (v .saved) (v .image) ≡ answer f
-    → Runs d rs (v .image) end → ((j : ℕ) → j < head-of d .n → covers rs j ≡ true)
-    → Finish d v (record { saved = state-bytes (f .done); image = end })
+      → Runs d rs (v .image) end → ((j : ℕ) → j < head-of d .n → covers rs j ≡ true)
+      → Finish d v (record { saved = state-bytes (f .done); image = end })
 
 pub data Move (d : List ℕ) (v : Volume) : Volume → Type 0 where
   finished : {w : Volume} → Finish d v w → Move d v w
