@@ -8,6 +8,7 @@ pub mod Parts
 pub mod Names
 pub mod Meaning
 pub mod Overlay
+pub mod Merging
 pub mod Runs
 pub mod Views
 pub mod Histories

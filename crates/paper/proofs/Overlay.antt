@@ -1,4 +1,4 @@
--- Applying one map over another is applying their merge (the note's b2), and merging is associative (b1): both hold byte by byte.
+-- Applying one map over another is applying their merge (the note's b2): it holds byte by byte.
 use Prim.Native.Nat.{ℕ, _*_, _/_, _%_, _+_, _-_, _≤_, _<_, min}
 use mathlib.Core.Path.{_≡_, refl, sym, ap, _∙_}
 use mathlib.Core.Option.{Option, none, some}
@@ -38,15 +38,6 @@ overlay-overlay img f g =
         last : (c d : Option (List ℕ)) → newer d (i % 512) (newer c (i % 512) (getD img i 0)) ≡ newer (second-else-first d c) (i % 512) (getD img i 0)
         last c none = refl
         last c (some z) = refl
-
--- b1: merging is associative
-pub merged-assoc : (f g h : Map) (a : ℕ) → merged (merged f g) h a ≡ merged f (merged g h) a
-unfolding merged
-merged-assoc f g h a = go (f a) (g a) (h a)
-  where
-    go : (x y z : Option (List ℕ)) → second-else-first z (second-else-first y x) ≡ second-else-first (second-else-first z y) x
-    go x y none = refl
-    go x y (some c) = refl
 
 -- a block that a map does not name stays
 pub unnamed-stays : (img : List ℕ) (f : Map) (a : ℕ) → f a ≡ none → block (overlay img f) a ≡ block img a

@@ -7,14 +7,11 @@ use lib.Dec.{eqb}
 use lib.ListN.{length}
 use Rattle.paper.specs.Answer.{Said, guard, Wrote, output, BadImage, BadHead}
 use Rattle.paper.specs.Image.{Map, bad-image, block, same}
-use Rattle.paper.specs.Diff.{Head, bad-head, written}
+use Rattle.paper.specs.Diff.{compared-head, bad-head, written}
 
 -- "the blocks where H(p) and H(q) differ, with the content in H(q)": "by content alone"
 unfoldable pub differing : List ℕ → List ℕ → Map
 differing old new a = cond (same (block old a) (block new a)) none (some (block new a))
-
-abbrev pub compared-head : ℕ → ℕ → Head
-compared-head p q = record { kind = 1; spare = 0; p = p; q = q; n = 0 }
 
 -- "A comparison checks 8, then 3 for its gids, then 17." BadImage: "or two images of unequal length".
 unfoldable pub compare : List ℕ → List ℕ → ℕ → ℕ → ℕ → Said (Wrote ℕ)

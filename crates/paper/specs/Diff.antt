@@ -26,6 +26,13 @@ head-of d = record { kind = getD d 2 0; spare = getD d 3 0; p = field d 4 8; q =
 unfoldable pub head-bytes : Head → List ℕ
 head-bytes h = head-mark ++ h .kind ∷ h .spare ∷ spelled 8 (h .p) ++ spelled 8 (h .q) ++ spelled 4 (h .n)
 
+-- a log head and a compared head from p to q, with no count yet
+abbrev pub log-head : ℕ → ℕ → Head
+log-head p q = record { kind = 0; spare = 0; p = p; q = q; n = 0 }
+
+abbrev pub compared-head : ℕ → ℕ → Head
+compared-head p q = record { kind = 1; spare = 0; p = p; q = q; n = 0 }
+
 abbrev pub is-compared : Head → Bool
 is-compared h = eqb (h .kind) 1
 

@@ -6,7 +6,7 @@ use mathlib.Core.Bool.{not, _||_}
 use lib.Dec.{eqb}
 use Rattle.paper.specs.Answer.{Said, answer, guard, _then_, Wrote, output, Compared, Apart}
 use Rattle.paper.specs.Image.{Map}
-use Rattle.paper.specs.Diff.{Head, is-compared, check, named, written}
+use Rattle.paper.specs.Diff.{Head, log-head, is-compared, check, named, written}
 
 -- "Merging gives the second diff's block where it names one, else the first's."
 abbrev pub second-else-first : Option (List ℕ) → Option (List ℕ) → Option (List ℕ)
@@ -22,7 +22,7 @@ unfoldable pub merge-heads : Head → Head → Said Head
 merge-heads h₀ h₁ =
     guard (is-compared h₀ || is-compared h₁) Compared
     (guard (not (eqb (h₀ .q) (h₁ .p))) Apart
-    (answer (record { kind = 0; spare = 0; p = h₀ .p; q = h₁ .q; n = 0 })))
+    (answer (log-head (h₀ .p) (h₁ .q))))
 
 -- "A merge checks first diff, second diff, 15, 16, 17."
 unfoldable pub merge : List ℕ → List ℕ → ℕ → Said (Wrote ℕ)

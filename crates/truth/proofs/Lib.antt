@@ -1,3 +1,4 @@
 -- Why it holds.
 pub mod Moves
 pub mod Cuts
+pub mod Demand
