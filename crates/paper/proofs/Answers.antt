@@ -2,7 +2,7 @@
 use Prim.Native.Nat.{ℕ, _≤_}
 use mathlib.Core.Path.{_≡_, refl, sym, _∙_}
 use mathlib.Core.List.{List, append-nil}
-use mathlib.Core.Bool.{Bool, true, false, _&&_, _||_, true≢false}
+use mathlib.Core.Bool.{Bool, true, false}
 use lib.Dec.{ltb}
 use lib.ListN.{length}
 use lib.Seq.{drop-length}
@@ -47,6 +47,10 @@ then-answer (refuse k) f e = absurd (refuse-not-answer e)
 pub then-passes : {A B : Type 0} {r : Said A} {a : A} (f : A → Said B) → r ≡ answer a → (r then f) ≡ f a
 then-passes f e = rw e
 
+-- what an output of bytes w answers and writes
+abbrev pub wrote : List ℕ → Wrote ℕ
+wrote w = record { value = length w; bytes = w }
+
 -- An output that was written: its length is the answer, it is the bytes, and there was room.
 pub record Output (w : List ℕ) (room : ℕ) (v : Wrote ℕ) : Type 0 where
   pub value : v .value ≡ length w
@@ -58,13 +62,13 @@ pub output-answer : {v : Wrote ℕ} (w : List ℕ) (room : ℕ) → output w roo
 unfolding output
 output-answer w room e = of (guard-answer (ltb room (length w)) NoRoom _ e)
   where
-    of : {v : Wrote ℕ} → Passed (ltb room (length w)) (answer (record { value = length w; bytes = w })) v → Output w room v
+    of : {v : Wrote ℕ} → Passed (ltb room (length w)) (answer (wrote w)) v → Output w room v
     of r =
         let same = answer-injective (r .onward) in
         record { value = cc; bytes = cc; fits = ltb-false room (length w) (r .clear) }
 
 -- where there is room, the output is written
-pub output-fits : (w : List ℕ) (room : ℕ) → length w ≤ room → output w room ≡ answer (record { value = length w; bytes = w })
+pub output-fits : (w : List ℕ) (room : ℕ) → length w ≤ room → output w room ≡ answer (wrote w)
 unfolding output
 output-fits w room h = guard-passes NoRoom _ (le-ltb room (length w) h)
 
@@ -84,19 +88,3 @@ unfolding over
 over-refused old r e = rw e
 
 -- ---- several faults in one check
-
--- where neither fault is there, each is not
-pub neither : (a b : Bool) → (a || b) ≡ false → (a ≡ false) × (b ≡ false)
-neither true b e = absurd (true≢false e)
-neither false b e = (refl, e)
-
--- where both tests are passed, each is
-pub both-true : (a b : Bool) → (a && b) ≡ true → (a ≡ true) × (b ≡ true)
-both-true true b e = (refl, e)
-both-true false b e = absurd (true≢false (sym e))
-
--- two tests that fail together are the same
-pub same-test : (a b : Bool) → (a ≡ false → b ≡ false) → (b ≡ false → a ≡ false) → a ≡ b
-same-test true true f g = refl
-same-test true false f g = g refl
-same-test false b f g = sym (f refl)

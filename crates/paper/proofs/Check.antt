@@ -13,7 +13,8 @@ use Rattle.paper.specs.Limits.{max-gid, max-blocks, max-address, head-si
 use Rattle.paper.specs.Number.{opens}
 use Rattle.paper.specs.Answer.{answer, guard, _then_, CutOff, BadMark, BadOrder, Tail}
 use Rattle.paper.specs.Diff.{Head, head-of, bad-head, check-head, rest, address-of, check-record, check-records, diff-size, read-head, check}
-use Rattle.paper.proofs.Answers.{answer-injective, Passed, guard-answer, Both, then-answer, neither}
+use Rattle.paper.proofs.Answers.{answer-injective, Passed, guard-answer, Both, then-answer}
+use Rattle.paper.proofs.Bools.{neither}
 
 -- ---- the head
 

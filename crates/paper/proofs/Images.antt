@@ -1,19 +1,22 @@
 -- Images byte by byte: byte i lies in block i / 512, at i % 512 of it. So blocks that are equal have equal bytes, and the other way round.
 use Prim.Native.Nat.{ℕ, zero, suc, _+_, _*_, _/_, _%_, _-_, _≤_, _<_, min}
-use mathlib.Core.Path.{_≡_, refl, sym, ap, _∙_}
+use mathlib.Core.Path.{_≡_, refl, sym, ap, fun-ext, _∙_}
 use mathlib.Core.Option.{Option, none, some}
 use mathlib.Core.List.{List, [], _∷_}
-use mathlib.Core.Bool.{true, false, false≢true}
+use mathlib.Core.Logic.{_↔_}
+use mathlib.Core.Bool.{true, false, not, _||_, true≢false, false≢true}
 use native.Mathlib.Omega.{arith}
 use native.Mathlib.Nat.{not-suc-le-zero, le-of-suc-le-suc}
-use lib.Dec.{eqb}
-use borrow.Author.Tests.{eqb-true}
-use lib.ListN.{length, getD, take, drop, length-take, length-drop}
+use lib.Dec.{eqb, ltb}
+use borrow.Author.Tests.{ltb-false, eqb-true, eqb-false, eq-eqb, ne-eqb, not-false, le-ltb}
+use lib.ListN.{length, getD, take, drop, length-take, length-drop, drop-of-length-le}
 use lib.Seq.{getD-take, getD-drop, ext-getD}
+use Rattle.paper.specs.Limits.{block-bytes, max-blocks}
 use Rattle.paper.specs.Image.{Map, bad-image, check-image, block, each, newer, overlay, same}
 use Rattle.paper.specs.Answer.{answer, guard, BadImage}
 use Rattle.paper.proofs.Answers.{answer-injective, Passed, guard-answer}
-use Rattle.paper.proofs.Bools.{and-true-left, and-true-right}
+use Rattle.paper.proofs.Numbers.{part-length}
+use Rattle.paper.proofs.Bools.{neither, and-true-left, and-true-right}
 
 pub each-length : (n : ℕ) (f : ℕ → ℕ) → length (each n f) ≡ n
 unfolding each
@@ -82,3 +85,56 @@ image-blocks img e = sym (answer-injective (guard-answer (bad-image img) BadImag
 pub same-length-image : (x y : List ℕ) → length x ≡ length y → check-image x ≡ check-image y
 unfolding check-image bad-image
 same-length-image x y e = rw e
+
+-- The rules of BadImage, turned round.
+pub record Whole-image (img : List ℕ) : Type 0 where
+  pub some-block : 0 < length img
+  pub blocks : length img % block-bytes ≡ 0
+  pub few : length img ≤ block-bytes * max-blocks
+
+-- an image that is not bad is whole
+pub whole-image : (img : List ℕ) → bad-image img ≡ false → Whole-image img
+unfolding bad-image
+whole-image img e =
+    let part = not (eqb (length img % block-bytes) 0) in
+    let (e₂, long) = neither (eqb (length img) 0 || part) (ltb (block-bytes * max-blocks) (length img)) e in
+    let (empty, blocks) = neither (eqb (length img) 0) part e₂ in
+    record {
+      some-block = omega (arith, eqb-false (length img) 0 empty);
+      blocks = eqb-true (length img % block-bytes) 0 (not-false _ blocks);
+      few = ltb-false (block-bytes * max-blocks) (length img) long;
+    }
+
+-- a whole image is not bad
+pub whole-passes : {img : List ℕ} → Whole-image img → bad-image img ≡ false
+unfolding bad-image
+whole-passes {img} w =
+    rw (ne-eqb (length img) 0 (omega arith), eq-eqb (length img % block-bytes) 0 (w .blocks)) (le-ltb (block-bytes * max-blocks) (length img) (w .few))
+
+-- a block within the image is whole
+pub block-whole : (img : List ℕ) (a : ℕ) → block-bytes * a + block-bytes ≤ length img → length (block img a) ≡ block-bytes
+unfolding block
+block-whole img a l = part-length img (block-bytes * a) block-bytes l
+
+-- beyond the image there is nothing
+pub block-beyond : (img : List ℕ) (a : ℕ) → length img ≤ block-bytes * a → block img a ≡ []
+unfolding block
+block-beyond img a l = rw (drop-of-length-le img l)
+
+-- an overlay hangs on the map's values alone
+pub overlay-same : (img : List ℕ) (f g : Map) → ((a : ℕ) → f a ≡ g a) → overlay img f ≡ overlay img g
+overlay-same img f g e = ap (overlay img) (fun-ext e)
+
+-- a list is found the same as itself
+pub same-self : (u : List ℕ) → same u u ≡ true
+unfolding same
+same-self [] = refl
+same-self (x ∷ u) = rw (eq-eqb x x refl) (same-self u)
+
+-- lists are found the same exactly where they are equal
+pub same-means : (u v : List ℕ) → (same u v ≡ true) ↔ (u ≡ v)
+same-means u v = (same-true u v, λ e. rw e (same-self v))
+
+-- lists that are not found the same are not equal
+pub same-false : (u v : List ℕ) → same u v ≡ false → u ≡ v → ⊥
+same-false u v e q = true≢false (sym (same-means u v .1 q) ∙ e)

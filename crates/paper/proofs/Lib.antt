@@ -1,6 +1,6 @@
 -- Why the definitions of specs/ are the right ones: their laws.
-pub mod Answers
 pub mod Bools
+pub mod Answers
 pub mod Numbers
 pub mod Images
 pub mod Check
@@ -9,6 +9,7 @@ pub mod Names
 pub mod Meaning
 pub mod Overlay
 pub mod Merging
+pub mod Comparing
 pub mod Runs
 pub mod Views
 pub mod Histories

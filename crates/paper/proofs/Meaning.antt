@@ -42,6 +42,7 @@ pub records-zero : (f : Map) (a : ℕ) → records-of f a 0 ≡ []
 unfolding records-of
 records-zero f a = refl
 
+-- and counts none
 pub count-zero : (f : Map) (a : ℕ) → count-of f a 0 ≡ 0
 unfolding count-of
 count-zero f a = refl

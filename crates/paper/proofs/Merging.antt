@@ -16,7 +16,8 @@ use Rattle.paper.specs.Answer.{answer, guard, Wrote, Apart}
 use Rattle.paper.specs.Image.{Map}
 use Rattle.paper.specs.Diff.{Head, log-head, bad-head, is-compared, check, named, counted, written}
 use Rattle.paper.specs.Merge.{merged, merge-heads, merge}
-use Rattle.paper.proofs.Answers.{answer-injective, Passed, guard-answer, then-answer, Output, output-answer, output-passes, neither}
+use Rattle.paper.proofs.Answers.{answer-injective, Passed, guard-answer, then-answer, wrote, Output, output-answer, output-passes}
+use Rattle.paper.proofs.Bools.{neither}
 use Rattle.paper.proofs.Check.{Good-head, good-head, good-passes, sound}
 use Rattle.paper.proofs.Names.{Fits, unnamed, named-as, seen, named-fits}
 use Rattle.paper.proofs.Meaning.{reads-back-check, reads-back-map, written-same}
@@ -92,6 +93,10 @@ touching-merges {h₀} {h₁} t = rw (t .log₀, t .log₁, eq-eqb (h₀ .q) (h�
 
 -- ---- what a merge gives
 
+-- the diff that means two, the second over the first
+abbrev pub merge-bytes : List ℕ → List ℕ → Head → Head → List ℕ
+merge-bytes d₀ d₁ h₀ h₁ = written (log-head (h₀ .p) (h₁ .q)) (merged (named d₀) (named d₁))
+
 -- A merge of d₀ and d₁: what holds of the two, and of what is written.
 pub record Merge-of (d₀ d₁ : List ℕ) (w : Wrote ℕ) : Type 0 where
   pub h₀ : Head
@@ -100,7 +105,7 @@ pub record Merge-of (d₀ d₁ : List ℕ) (w : Wrote ℕ) : Type 0 where
   pub check₁ : check d₁ ≡ answer h₁
   pub heads : Touching h₀ h₁
   pub value : w .value ≡ length (w .bytes)
-  pub bytes : w .bytes ≡ written (log-head (h₀ .p) (h₁ .q)) (merged (named d₀) (named d₁))
+  pub bytes : w .bytes ≡ merge-bytes d₀ d₁ h₀ h₁
   pub passes : check (w .bytes) ≡ answer (counted (log-head (h₀ .p) (h₁ .q)) (merged (named d₀) (named d₁)))
   pub names : (a : ℕ) → named (w .bytes) a ≡ merged (named d₀) (named d₁) a
 
@@ -108,12 +113,8 @@ pub record Merge-of (d₀ d₁ : List ℕ) (w : Wrote ℕ) : Type 0 where
 pub log-head-good : {h₀ h₁ : Head} → Good-head h₀ → Good-head h₁ → h₀ .q ≡ h₁ .p → bad-head (log-head (h₀ .p) (h₁ .q)) ≡ false
 log-head-good g₀ g₁ e = good-passes (record { kind = omega arith; spare = refl; p = g₀ .p; q = g₁ .q; grows = omega arith })
 
--- the diff that means two, the second over the first
-abbrev pub merge-bytes : List ℕ → List ℕ → Head → Head → List ℕ
-merge-bytes d₀ d₁ h₀ h₁ = written (log-head (h₀ .p) (h₁ .q)) (merged (named d₀) (named d₁))
-
 module _ (d₀ d₁ : List ℕ) {h₀ h₁ : Head} (check₀ : check d₀ ≡ answer h₀) (check₁ : check d₁ ≡ answer h₁) (heads : Touching h₀ h₁) where
-  -- it passes the check
+  -- the diff that means two passes the check
   pub merge-passes : check (merge-bytes d₀ d₁ h₀ h₁) ≡ answer (counted (log-head (h₀ .p) (h₁ .q)) (merged (named d₀) (named d₁)))
   merge-passes = reads-back-check _ _
       (log-head-good (good-head (sound check₀ .good)) (good-head (sound check₁ .good)) (heads .touch))
@@ -234,7 +235,7 @@ three-right {z} {y} {d₀} {d₁} {d₂} m n =
 pub left-three : {y : Wrote ℕ} {d₀ d₁ d₂ : List ℕ} → Three d₀ d₁ d₂ y → From-left d₀ d₁ d₂ y
 unfolding counted
 left-three {y} {d₀} {d₁} {d₂} t =
-    let x : Wrote ℕ = record { value = _; bytes = merge-bytes d₀ d₁ (t .h₀) (t .h₁) } in
+    let x = wrote (merge-bytes d₀ d₁ (t .h₀) (t .h₁)) in
     let passes = merge-passes d₀ d₁ (t .check₀) (t .check₁) (t .heads₀) in
     let names = merge-names d₀ d₁ (t .check₀) (t .check₁) (t .heads₀) in
     let maps = merged-same (merged (named d₀) (named d₁)) (named d₂) (named (x .bytes)) (named d₂) in
@@ -253,7 +254,7 @@ left-three {y} {d₀} {d₁} {d₂} t =
 pub right-three : {y : Wrote ℕ} {d₀ d₁ d₂ : List ℕ} → Three d₀ d₁ d₂ y → From-right d₀ d₁ d₂ y
 unfolding counted
 right-three {y} {d₀} {d₁} {d₂} t =
-    let z : Wrote ℕ = record { value = _; bytes = merge-bytes d₁ d₂ (t .h₁) (t .h₂) } in
+    let z = wrote (merge-bytes d₁ d₂ (t .h₁) (t .h₂)) in
     let passes = merge-passes d₁ d₂ (t .check₁) (t .check₂) (t .heads₁) in
     let names = merge-names d₁ d₂ (t .check₁) (t .check₂) (t .heads₁) in
     let maps = merged-same (named d₀) (merged (named d₁) (named d₂)) (named d₀) (named (z .bytes)) in

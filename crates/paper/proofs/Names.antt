@@ -15,7 +15,7 @@ use Rattle.paper.specs.Limits.{max-blocks, block-bytes, content-at}
 use Rattle.paper.specs.Answer.{answer}
 use Rattle.paper.specs.Image.{Map}
 use Rattle.paper.specs.Diff.{Head, rest, address-of, content-of, check, seek, named-by, named, names-outside}
-use Rattle.paper.proofs.Answers.{neither, same-test}
+use Rattle.paper.proofs.Bools.{neither, same-test}
 use Rattle.paper.proofs.Numbers.{part-length}
 use Rattle.paper.proofs.Check.{Sound, sound, from-first}
 
@@ -195,7 +195,7 @@ named-fits d e = sound-fits (sound e)
 
 -- ---- Outside
 
--- none of the records names a block outside exactly where each address is below the number of blocks
+-- where none of the records is outside, each address is below the number of blocks
 pub outside-false : (d : List ℕ) (i k m : ℕ) → names-outside d i k m ≡ false → (j : ℕ) → i ≤ j → j < i + k → address-of (rest d j) < m
 unfolding names-outside
 outside-false d i zero m e = λ j x y. absurd (omega arith)
@@ -203,7 +203,7 @@ outside-false d i (suc k) m e =
     let (here, later) = neither _ _ e in
     from-first (λ j. address-of (rest d j) < m) i k (leb-false m (address-of (rest d i)) here) (outside-false d (suc i) k m later)
 
--- and back
+-- where each address is below the number of blocks, none of the records is outside
 pub inside-false : (d : List ℕ) (i k m : ℕ) → ((j : ℕ) → i ≤ j → j < i + k → address-of (rest d j) < m) → names-outside d i k m ≡ false
 unfolding names-outside
 inside-false d i zero m below = refl

@@ -18,12 +18,6 @@ pub is-overlay : (img : List ℕ) (f : Map) (now : List ℕ) → length now ≡ 
 is-overlay img f now e h =
     ext-getD 0 now (overlay img f) (e ∙ sym (overlay-length img f)) (λ i k. h i (omega (arith, e)) ∙ sym (overlay-at img f i (omega (arith, e))))
 
--- two maps that agree give one image
-pub overlay-agree : (img : List ℕ) (f g : Map) → ((a : ℕ) → f a ≡ g a) → overlay img f ≡ overlay img g
-overlay-agree img f g e =
-    is-overlay img g (overlay img f) (overlay-length img f)
-    (λ i k. overlay-at img f i k ∙ ap (λ (c : Option (List ℕ)). newer c (i % 512) (getD img i 0)) (e (i / 512)))
-
 -- b2: first f and then g is their merge
 pub overlay-overlay : (img : List ℕ) (f g : Map) → overlay (overlay img f) g ≡ overlay img (merged f g)
 unfolding merged

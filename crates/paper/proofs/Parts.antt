@@ -11,7 +11,7 @@ use borrow.Author.Tests.{eqb-true}
 use Rattle.paper.specs.Limits.{max-blocks, block-bytes, head-size, record-size, content-at, head-mark, block-mark}
 use Rattle.paper.specs.Number.{Bytes, spelled, field, opens}
 use Rattle.paper.specs.Diff.{Head, head-of, head-bytes, address-of, content-of, record-bytes}
-use Rattle.paper.proofs.Answers.{both-true}
+use Rattle.paper.proofs.Bools.{both-true}
 use Rattle.paper.proofs.Numbers.{bytes-two, spelled-length, spelled-bytes, bytes-append, field-at, spelled-field}
 use Rattle.paper.proofs.Check.{Good-head}
 

@@ -19,7 +19,7 @@ use Rattle.paper.specs.History.{Mixed}
 use Rattle.paper.proofs.Bools.{Which, holds, fails, which, and-true-left, and-true-right}
 use Rattle.paper.proofs.Answers.{answer-injective, Passed, guard-answer, Both, then-answer}
 use Rattle.paper.proofs.Images.{overlay-length, overlay-at}
-use Rattle.paper.proofs.Overlay.{is-overlay, overlay-agree, overlay-overlay}
+use Rattle.paper.proofs.Overlay.{is-overlay}
 use Rattle.paper.proofs.Check.{Sound, sound, passes}
 use Rattle.paper.proofs.Names.{Sought, Named-by, named-by-sound, named-by-found, named-by-none, seek-record, named-sound, names-record}
 
