@@ -1,0 +1,2 @@
+-- What the functions promise beyond `paper`.
+pub mod Put
