@@ -2,3 +2,4 @@
 pub mod Moves
 pub mod Cuts
 pub mod Demand
+pub mod Diffs
