@@ -7,6 +7,7 @@ pub mod Check
 pub mod Parts
 pub mod Names
 pub mod Meaning
+pub mod Listed
 pub mod Overlay
 pub mod Merging
 pub mod Comparing
@@ -27,3 +28,4 @@ pub mod Walk
 pub mod Marks
 pub mod Planner
 pub mod Rows
+pub mod Example

@@ -1,7 +1,7 @@
 -- True diffs exist for every history that a desk can handle: the bytes written for what the history says pass the check and mean just that.
 -- A block that is named lies inside the images and is a whole block of H(q), so the map is one that a diff can mean.
-use Prim.Native.Nat.{ℕ, _-_, _*_, _≤_, _<_}
-use mathlib.Core.Path.{_≡_, refl, sym, _∙_}
+use Prim.Native.Nat.{ℕ, _-_, _≤_, _<_}
+use mathlib.Core.Path.{_≡_, refl}
 use mathlib.Core.Option.{none, some}
 use mathlib.Core.List.{List, []}
 use mathlib.Core.Bool.{false}

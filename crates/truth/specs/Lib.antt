@@ -1,2 +1,3 @@
 -- What is promised of a volume over time.
 pub mod Story
+pub mod Made
