@@ -3,3 +3,5 @@ pub mod Moves
 pub mod Cuts
 pub mod Demand
 pub mod Diffs
+pub mod Accepts
+pub mod Shortcuts

@@ -1,0 +1,161 @@
+-- 01, "Shortcuts that cost us the queue": each one, on a small history, makes a state that is not true. One byte is enough to show it.
+use Prim.Native.Nat.{ℕ, suc, _/_, _%_, _*_, _≤_, _<_}
+use mathlib.Core.Path.{_≡_, refl, sym, ap, _∙_}
+use mathlib.Core.Option.{none, some}
+use mathlib.Core.List.{List, [], _∷_}
+use mathlib.Core.Bool.{Bool, true, false}
+use native.Mathlib.Omega.{arith}
+use lib.ListN.{length, getD}
+use borrow.Author.Tests.{eq-eqb}
+use Rattle.paper.specs.Answer.{answer, refuse, NotExact}
+use Rattle.paper.specs.Number.{little, spelled, field, opens}
+use Rattle.paper.specs.Image.{block, newer, overlay, same}
+use Rattle.paper.specs.Diff.{Head, is-compared, head-of, head-bytes, bad-head, check-head, check-records, read-head, check, seek, named-by, named, names-outside}
+use Rattle.paper.specs.State.{State, clean, settled, pair, span, is-clean, state-bytes}
+use Rattle.paper.specs.Volume.{exact, while-state, done-state, is-pair-while, decide-on, decide}
+use Rattle.paper.specs.Compare.{differing}
+use Rattle.paper.specs.History.{History, writes-in, logged, true-map, True-diff, True-byte, of-span, of-b, of-t, True-state, Mixed}
+use Rattle.paper.proofs.Answers.{answer-injective}
+use Rattle.paper.proofs.Images.{overlay-length, overlay-at}
+use Rattle.paper.proofs.Merging.{log-head}
+use Rattle.truth.specs.Story.{Volume, True-volume}
+use Rattle.truth.specs.Made.{Put, put, puts, after-step, number-at, filled, filled-length, filled-at, filled-block, made, partly}
+use Rattle.truth.proofs.Accepts.{whole-image, decide-true, settled-reads, settled-true}
+
+-- where clean g is true, a byte is that of H(g)
+clean-byte : (H : History) (g : ℕ) (img : List ℕ) (i : ℕ) → True-state H (clean g) img → i < length img → getD img i 0 ≡ getD (H .image g) i 0
+clean-byte H g img i t l = go (t .bytes i l)
+  where
+    go : True-byte H (clean g) img i → getD img i 0 ≡ getD (H .image g) i 0
+    go (of-span k u m n x) = let e : u ≡ g = omega arith in rw e at x
+    go (of-b k x) = x
+    go (of-t k x) = x
+
+same-refl : (xs : List ℕ) → same xs xs ≡ true
+unfolding same
+same-refl [] = refl
+same-refl (x ∷ xs) = rw (eq-eqb x x refl) (same-refl xs)
+
+-- one block: 0, then 1, then 0 again
+abbrev pub there-and-back : History
+there-and-back = made (0 ∷ []) ((put 0 1 ∷ []) ∷ (put 0 0 ∷ []) ∷ [])
+
+-- its bytes at each gid
+byte-at : (i : ℕ) → i < 512 → (getD (there-and-back .image 0) i 0 ≡ 0) × (getD (there-and-back .image 1) i 0 ≡ 1) × (getD (there-and-back .image 2) i 0 ≡ 0)
+unfolding number-at after-step
+byte-at i l = let e : i / 512 ≡ 0 = omega arith in (filled-at 1 _ i l ∙ rw e, filled-at 1 _ i l ∙ rw e, filled-at 1 _ i l ∙ rw e)
+
+-- a diff that leaves block 0 out leaves its middle content, and the volume is not at 2
+left-out : (d img : List ℕ) (i : ℕ) → length img ≡ 512 → i < 512 → getD img i 0 ≡ 1 → named d 0 ≡ none
+    → ¬ True-state there-and-back (clean 2) (overlay img (named d))
+left-out d img i e l x n t =
+    let k : i / 512 ≡ 0 = omega arith in
+    let new : getD (overlay img (named d)) i 0 ≡ 1 = overlay-at img (named d) i (omega arith) ∙ rw (k, n) x in
+    let old = clean-byte there-and-back 2 (overlay img (named d)) i t (rw overlay-length (omega arith)) in
+    omega (arith, byte-at i l .2)
+
+-- a true diff from p to q, compared or log
+pub record Diff-of (H : History) (compared : Bool) (p q : ℕ) (d : List ℕ) : Type 0 where
+  pub is-true : True-diff H d
+  pub kind : is-compared (is-true .head) ≡ compared
+  pub from : is-true .head .p ≡ p
+  pub to : is-true .head .q ≡ q
+
+-- ---- "Applying a compared 0→2 diff to a volume at 1: a block changed and changed back keeps its middle content."
+
+-- the block came back
+came-back : block (there-and-back .image 2) 0 ≡ block (there-and-back .image 0) 0
+unfolding number-at after-step
+came-back = filled-block 1 _ _ 0 λ l. refl
+
+-- so the compared diff does not name it
+compared-empty : (d : List ℕ) → Diff-of there-and-back true 0 2 d → named d 0 ≡ none
+unfolding true-map differing
+compared-empty d t = t .is-true .names 0 ∙ rw (t .kind, t .from, t .to, came-back, same-refl (block (there-and-back .image 0) 0))
+
+-- the desk refuses
+pub compared-refused : (d : List ℕ) → Diff-of there-and-back true 0 2 d → decide d (state-bytes (clean 1)) (there-and-back .image 1) ≡ refuse NotExact
+unfolding decide-on exact is-clean
+compared-refused d t =
+    decide-true there-and-back d (t .is-true) _ _ (clean 1) (settled-reads 1 1 (omega arith) (omega arith)) (filled-length 1 _) (omega arith) (omega arith)
+    ∙ rw (t .kind, t .from, t .to)
+
+-- to apply it would be wrong
+pub compared-too-early : (d : List ℕ) → Diff-of there-and-back true 0 2 d → ¬ True-state there-and-back (clean 2) (overlay (there-and-back .image 1) (named d))
+compared-too-early d t = left-out d (there-and-back .image 1) 0 (filled-length 1 _) (omega arith) (byte-at 0 (omega arith) .1) (compared-empty d t)
+
+-- ---- "Dropping blocks from a merge because the content equals the old one: the result is no longer a true log diff."
+
+-- each true log diff from 0 to 2 names block 0, though its content came back
+pub log-names-it : (d : List ℕ) → Diff-of there-and-back false 0 2 d → named d 0 ≡ some (block (there-and-back .image 2) 0)
+unfolding true-map logged writes-in puts
+log-names-it d t = t .is-true .names 0 ∙ rw (t .kind, t .from, t .to)
+
+-- so a diff with the merge's head that leaves it out is not true
+pub dropped-untrue : (d : List ℕ) (h : Head) → check d ≡ answer h → is-compared h ≡ false → h .p ≡ 0 → h .q ≡ 2 → named d 0 ≡ none → ¬ True-diff there-and-back d
+dropped-untrue d h e k p q n t =
+    let same : t .head ≡ h = answer-injective (sym (t .sound) ∙ e) in
+    let x = log-names-it d (record { is-true = t; kind = rw same k; from = rw same p; to = rw same q }) in
+    let z : _≡_ {A = ℕ} 0 1 = cc in
+    omega arith
+
+-- the merge with the one block dropped: the empty log diff from 0 to 2
+pub emptied : List ℕ
+emptied = head-bytes (log-head 0 2)
+
+emptied-checks : check emptied ≡ answer (log-head 0 2)
+unfolding emptied check read-head opens head-bytes head-of check-head bad-head field little spelled check-records
+emptied-checks = refl
+
+emptied-names : (a : ℕ) → named emptied a ≡ none
+unfolding emptied named named-by seek head-of head-bytes field little spelled
+emptied-names a = refl
+
+pub emptied-untrue : ¬ True-diff there-and-back emptied
+emptied-untrue = dropped-untrue emptied (log-head 0 2) emptied-checks refl refl refl (emptied-names 0)
+
+-- a volume at 1 takes it, and is then called clean at 2
+pub emptied-accepted : decide emptied (state-bytes (clean 1)) (there-and-back .image 1) ≡ answer (record { while = pair 1 2; done = clean 2 })
+unfolding decide names-outside decide-on exact is-clean is-pair-while while-state done-state
+emptied-accepted =
+    rw (emptied-checks, settled-reads 1 1 (omega arith) (omega arith), whole-image (there-and-back .image 1) 1 (filled-length 1 _) (omega arith) (omega arith))
+
+-- which is wrong
+pub emptied-wrong : ¬ True-state there-and-back (clean 2) (overlay (there-and-back .image 1) (named emptied))
+emptied-wrong = left-out emptied (there-and-back .image 1) 0 (filled-length 1 _) (omega arith) (byte-at 0 (omega arith) .1) (emptied-names 0)
+
+-- ---- "Calling a dirty volume clean after any apply, though q < e."
+
+-- one block: 0, still 0, then 1
+abbrev pub late : History
+late = made (0 ∷ []) ([] ∷ (put 0 1 ∷ []) ∷ [])
+
+late-byte : (getD (late .image 1) 0 0 ≡ 0) × (getD (late .image 2) 0 0 ≡ 1)
+unfolding number-at after-step
+late-byte = (filled-at 1 _ 0 (omega arith), filled-at 1 _ 0 (omega arith))
+
+-- a dirty volume from 0 to 2 that already holds 2 is true
+pub dirty-true : True-state late (settled 0 2) (late .image 2)
+dirty-true = settled-true late 0 2 2 (omega arith) (omega arith) (omega arith)
+
+-- a true log diff from 0 to 1 is accepted, and Done stays dirty
+pub dirty-accepted : (d : List ℕ) → Diff-of late false 0 1 d
+    → decide d (state-bytes (settled 0 2)) (late .image 2) ≡ answer (record { while = span 0 1 2; done = settled 1 2 })
+unfolding decide-on exact is-clean is-pair-while while-state done-state
+dirty-accepted d t =
+    decide-true late d (t .is-true) _ _ (settled 0 2) (settled-reads 0 2 (omega arith) (omega arith)) (filled-length 1 _) (omega arith) (omega arith)
+    ∙ rw (t .kind, t .from, t .to)
+
+-- it names nothing
+early-empty : (d : List ℕ) → Diff-of late false 0 1 d → named d 0 ≡ none
+unfolding true-map logged writes-in puts
+early-empty d t = t .is-true .names 0 ∙ rw (t .kind, t .from, t .to)
+
+-- so to call the volume clean at 1 would be wrong
+pub dirty-not-clean : (d : List ℕ) → Diff-of late false 0 1 d → ¬ True-state late (clean 1) (overlay (late .image 2) (named d))
+dirty-not-clean d t c =
+    let img = late .image 2 in
+    let long : length img ≡ 512 = filled-length 1 _ in
+    let new : getD (overlay img (named d)) 0 0 ≡ 1 = overlay-at img (named d) 0 (omega arith) ∙ rw (early-empty d t) (late-byte .1) in
+    let old = clean-byte late 1 (overlay img (named d)) 0 c (rw overlay-length (omega arith)) in
+    omega (arith, late-byte .0)
