@@ -10,12 +10,12 @@ use native.Mathlib.Decide.{ℕ-discrete}
 use borrow.Author.Tests.{ne-eqb}
 use Rattle.paper.specs.Limits.{max-gid, block-bytes}
 use Rattle.paper.specs.Answer.{answer, refuse, NoRoom, output}
-use Rattle.paper.specs.Diff.{Head, head-bytes, record-bytes, bad-head, named, counted, written}
+use Rattle.paper.specs.Diff.{Head, log-head, head-bytes, record-bytes, bad-head, named, counted, written}
 use Rattle.paper.specs.Merge.{merged, merge}
 use Rattle.paper.proofs.Check.{good-passes}
 use Rattle.paper.proofs.Parts.{head-length, record-length}
 use Rattle.paper.proofs.Meaning.{reads-back-check, reads-back-map, written-same}
-use Rattle.paper.proofs.Merging.{log-head, Touching, touching-merges, merged-same}
+use Rattle.paper.proofs.Merging.{Touching, touching-merges, merged-same}
 use Rattle.paper.proofs.Listed.{Listed, names, listing, listed-bytes, listing-fits, written-listed}
 
 -- the head of a log diff of n blocks

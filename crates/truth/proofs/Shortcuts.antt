@@ -10,14 +10,13 @@ use borrow.Author.Tests.{eq-eqb}
 use Rattle.paper.specs.Answer.{answer, refuse, NotExact}
 use Rattle.paper.specs.Number.{little, spelled, field, opens}
 use Rattle.paper.specs.Image.{block, newer, overlay, same}
-use Rattle.paper.specs.Diff.{Head, is-compared, head-of, head-bytes, bad-head, check-head, check-records, read-head, check, seek, named-by, named, names-outside}
+use Rattle.paper.specs.Diff.{Head, log-head, is-compared, head-of, head-bytes, bad-head, check-head, check-records, read-head, check, seek, named-by, named, names-outside}
 use Rattle.paper.specs.State.{State, clean, settled, pair, span, is-clean, state-bytes}
 use Rattle.paper.specs.Volume.{exact, while-state, done-state, is-pair-while, decide-on, decide}
 use Rattle.paper.specs.Compare.{differing}
 use Rattle.paper.specs.History.{History, writes-in, logged, true-map, True-diff, True-byte, of-span, of-b, of-t, True-state, Mixed}
 use Rattle.paper.proofs.Answers.{answer-injective}
 use Rattle.paper.proofs.Images.{overlay-length, overlay-at}
-use Rattle.paper.proofs.Merging.{log-head}
 use Rattle.truth.specs.Story.{Volume, True-volume}
 use Rattle.truth.specs.Made.{Put, put, puts, after-step, number-at, filled, filled-length, filled-at, filled-block, made, partly}
 use Rattle.truth.proofs.Accepts.{whole-image, decide-true, settled-reads, settled-true}
