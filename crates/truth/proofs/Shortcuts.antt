@@ -6,7 +6,6 @@ use mathlib.Core.List.{List, [], _∷_}
 use mathlib.Core.Bool.{Bool, true, false}
 use native.Mathlib.Omega.{arith}
 use lib.ListN.{length, getD}
-use borrow.Author.Tests.{eq-eqb}
 use Rattle.paper.specs.Answer.{answer, refuse, NotExact}
 use Rattle.paper.specs.Number.{little, spelled, field, opens}
 use Rattle.paper.specs.Image.{block, newer, overlay, same}
@@ -16,10 +15,10 @@ use Rattle.paper.specs.Volume.{exact, while-state, done-state, is-pair-while, d
 use Rattle.paper.specs.Compare.{differing}
 use Rattle.paper.specs.History.{History, writes-in, logged, true-map, True-diff, True-byte, of-span, of-b, of-t, True-state, Mixed}
 use Rattle.paper.proofs.Answers.{answer-injective}
-use Rattle.paper.proofs.Images.{overlay-length, overlay-at}
+use Rattle.paper.proofs.Images.{overlay-length, overlay-at, same-self}
 use Rattle.truth.specs.Story.{Volume, True-volume}
 use Rattle.truth.specs.Made.{Put, put, puts, after-step, number-at, filled, filled-length, filled-at, filled-block, made, partly}
-use Rattle.truth.proofs.Accepts.{whole-image, decide-true, settled-reads, settled-true}
+use Rattle.truth.proofs.Accepts.{image-passes, decide-true, settled-reads, settled-true}
 
 -- where clean g is true, a byte is that of H(g)
 clean-byte : (H : History) (g : ℕ) (img : List ℕ) (i : ℕ) → True-state H (clean g) img → i < length img → getD img i 0 ≡ getD (H .image g) i 0
@@ -29,11 +28,6 @@ clean-byte H g img i t l = go (t .bytes i l)
     go (of-span k u m n x) = let e : u ≡ g = omega arith in rw e at x
     go (of-b k x) = x
     go (of-t k x) = x
-
-same-refl : (xs : List ℕ) → same xs xs ≡ true
-unfolding same
-same-refl [] = refl
-same-refl (x ∷ xs) = rw (eq-eqb x x refl) (same-refl xs)
 
 -- one block: 0, then 1, then 0 again
 abbrev pub there-and-back : History
@@ -70,7 +64,7 @@ came-back = filled-block 1 _ _ 0 λ l. refl
 -- so the compared diff does not name it
 compared-empty : (d : List ℕ) → Diff-of there-and-back true 0 2 d → named d 0 ≡ none
 unfolding true-map differing
-compared-empty d t = t .is-true .names 0 ∙ rw (t .kind, t .from, t .to, came-back, same-refl (block (there-and-back .image 0) 0))
+compared-empty d t = t .is-true .names 0 ∙ rw (t .kind, t .from, t .to, came-back, same-self (block (there-and-back .image 0) 0))
 
 -- the desk refuses
 pub compared-refused : (d : List ℕ) → Diff-of there-and-back true 0 2 d → decide d (state-bytes (clean 1)) (there-and-back .image 1) ≡ refuse NotExact
@@ -117,7 +111,7 @@ emptied-untrue = dropped-untrue emptied (log-head 0 2) emptied-checks refl refl 
 pub emptied-accepted : decide emptied (state-bytes (clean 1)) (there-and-back .image 1) ≡ answer (record { while = pair 1 2; done = clean 2 })
 unfolding decide names-outside decide-on exact is-clean is-pair-while while-state done-state
 emptied-accepted =
-    rw (emptied-checks, settled-reads 1 1 (omega arith) (omega arith), whole-image (there-and-back .image 1) 1 (filled-length 1 _) (omega arith) (omega arith))
+    rw (emptied-checks, settled-reads 1 1 (omega arith) (omega arith), image-passes (there-and-back .image 1) 1 (filled-length 1 _) (omega arith) (omega arith))
 
 -- which is wrong
 pub emptied-wrong : ¬ True-state there-and-back (clean 2) (overlay (there-and-back .image 1) (named emptied))
