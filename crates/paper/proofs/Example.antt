@@ -1,22 +1,22 @@
 -- 01, "Rows from the night book": "Merging blocks {1: A, 3: B} with {3: C, 6: D} gives {1: A, 3: C, 6: D}, 1,578 bytes; an output of 1,577 gets NoRoom."
 -- For all contents of a block, and all gids that touch.
 use Prim.Native.Nat.{ℕ, _≤_, _<_}
-use mathlib.Core.Path.{_≡_, refl, sym, _∙_}
+use mathlib.Core.Path.{_≡_, refl, _∙_}
 use mathlib.Core.List.{List, [], _∷_, _++_, append-nil}
 use mathlib.Core.Bool.{false}
 use lib.ListN.{length, length-append}
 use native.Mathlib.Omega.{arith}
 use native.Mathlib.Decide.{ℕ-discrete}
 use borrow.Author.Tests.{ne-eqb}
-use Rattle.paper.specs.Limits.{max-gid, block-bytes}
+use Rattle.paper.specs.Limits.{max-gid, max-blocks, block-bytes}
 use Rattle.paper.specs.Answer.{answer, refuse, NoRoom, output}
-use Rattle.paper.specs.Diff.{Head, log-head, head-bytes, record-bytes, bad-head, named, counted, written}
+use Rattle.paper.specs.Diff.{Head, log-head, head-bytes, record-bytes, bad-head, named}
 use Rattle.paper.specs.Merge.{merged, merge}
 use Rattle.paper.proofs.Check.{good-passes}
 use Rattle.paper.proofs.Parts.{head-length, record-length}
-use Rattle.paper.proofs.Meaning.{reads-back-check, reads-back-map, written-same}
+use Rattle.paper.proofs.Meaning.{written-same}
 use Rattle.paper.proofs.Merging.{Touching, touching-merges, merged-same}
-use Rattle.paper.proofs.Listed.{Listed, names, listing, listed-bytes, listing-fits, written-listed}
+use Rattle.paper.proofs.Listed.{Listed, names, listing, listed-bytes, Rising, listed, listed-written, listed-checks, listed-names}
 
 -- the head of a log diff of n blocks
 abbrev pub log-of : ℕ → ℕ → ℕ → Head
@@ -67,18 +67,18 @@ module _ (A B C D : List ℕ) where
     abbrev pub merged-diff : List ℕ
     merged-diff = head-bytes (log-of p r 3) ++ (record-bytes 1 A ++ (record-bytes 3 C ++ record-bytes 6 D))
 
-    -- each is what is written for its map
-    first-written : first-diff ≡ written (log-head p q) (listing first)
+    -- each lists its records
+    first-listed : first-diff ≡ listed (log-head p q) first
     unfolding listed-bytes
-    first-written = sym (written-listed (log-head p q) first (omega arith) ∙ rw append-nil)
+    first-listed = rw append-nil
 
-    second-written : second-diff ≡ written (log-head q r) (listing second)
+    second-listed : second-diff ≡ listed (log-head q r) second
     unfolding listed-bytes
-    second-written = sym (written-listed (log-head q r) second (omega arith) ∙ rw append-nil)
+    second-listed = rw append-nil
 
-    merged-written : merged-diff ≡ written (log-head p r) (listing both)
+    merged-listed : merged-diff ≡ listed (log-head p r) both
     unfolding listed-bytes
-    merged-written = sym (written-listed (log-head p r) both (omega arith) ∙ rw append-nil)
+    merged-listed = rw append-nil
 
     -- "1,578 bytes"
     merged-length : length merged-diff ≡ 1578
@@ -86,18 +86,19 @@ module _ (A B C D : List ℕ) where
 
     -- the output for the two is the merge, if it has room
     merge-is : (room : ℕ) → merge first-diff second-diff room ≡ output merged-diff room
-    unfolding merge counted
+    unfolding merge
     merge-is room =
-        let fits₀ = listing-fits first (omega arith) in
-        let fits₁ = listing-fits second (omega arith) in
+        let rises₀ : Rising 0 max-blocks first = omega arith in
+        let rises₁ : Rising 0 max-blocks second = omega arith in
         let good₀ = log-good p q l (omega arith) in
         let good₁ = log-good q r m n in
-        let same = written-same (log-head p r) (log-head p r) (merged (named _) (named _)) (listing both) refl refl refl refl λ k _.
-        merged-same _ _ _ _ k (reads-back-map (log-head p q) (listing first) good₀ fits₀ k) (reads-back-map (log-head q r) (listing second) good₁ fits₁ k) ∙ merged-both k in
-        let touch : Touching (counted (log-head p q) (listing first)) (counted (log-head q r) (listing second)) = record { log₀ = refl; log₁ = refl; touch = refl } in
-        rw (first-written, second-written, merged-written)
-        (rw (reads-back-check (log-head p q) (listing first) good₀ fits₀, reads-back-check (log-head q r) (listing second) good₁ fits₁)
-        (rw (touching-merges touch, same)))
+        let touch : Touching (log-of p q 2) (log-of q r 2) = record { log₀ = refl; log₁ = refl; touch = refl } in
+        let same = written-same (log-head p r) (log-head p r) (merged (named (listed (log-head p q) first)) (named (listed (log-head q r) second))) (listing both)
+        refl refl refl refl λ k _.
+        merged-same _ _ _ _ k (listed-names (log-head p q) first rises₀ good₀ k) (listed-names (log-head q r) second rises₁ good₁ k) ∙ merged-both k in
+        rw (first-listed, second-listed, merged-listed)
+        (rw (listed-checks (log-head p q) first rises₀ good₀, listed-checks (log-head q r) second rises₁ good₁, touching-merges touch)
+        (rw (same, listed-written (log-head p r) both (omega arith))))
 
     -- "gives {1: A, 3: C, 6: D}, 1,578 bytes"
     pub merge-row : merge first-diff second-diff 1578 ≡ answer (record { value = 1578; bytes = merged-diff })

@@ -4,17 +4,18 @@ use Prim.Native.Nat.{ℕ, zero, suc, _+_, _≤_, _<_}
 use mathlib.Core.Path.{_≡_, refl}
 use mathlib.Core.Option.{none, some}
 use mathlib.Core.List.{List, [], _∷_, _++_}
-use mathlib.Core.Bool.{cond}
+use mathlib.Core.Bool.{false, cond}
 use lib.Dec.{eqb}
 use lib.ListN.{length}
 use native.Mathlib.Omega.{arith}
 use native.Mathlib.Decide.{ℕ-discrete}
 use borrow.Author.Tests.{eq-eqb, ne-eqb}
 use Rattle.paper.specs.Limits.{max-blocks, block-bytes}
+use Rattle.paper.specs.Answer.{answer}
 use Rattle.paper.specs.Image.{Map}
-use Rattle.paper.specs.Diff.{Head, head-bytes, record-bytes, records-of, count-of, counted, written}
+use Rattle.paper.specs.Diff.{Head, head-bytes, bad-head, record-bytes, check, named, records-of, count-of, counted, written}
 use Rattle.paper.proofs.Names.{Fits}
-use Rattle.paper.proofs.Meaning.{records-same, count-same}
+use Rattle.paper.proofs.Meaning.{records-same, count-same, reads-back-check, reads-back-map}
 
 -- one record: the block that it names, and its content
 pub record Listed : Type 0 where
@@ -106,10 +107,27 @@ spelled-out (suc k) a top (r ∷ rs) e (x, y, z, w) = elim (ℕ-discrete (r .add
       record { records = rw none-here (later .records); count = rw none-here (omega (arith, later .count)) }
 ]
 
--- the head and the records, in bytes, are what is written
-pub written-listed : (h : Head) (l : List Listed) → Rising 0 max-blocks l → written h (listing l)
-    ≡ head-bytes (record { kind = h .kind; spare = h .spare; p = h .p; q = h .q; n = length l }) ++ listed-bytes l
-unfolding written counted
-written-listed h l r =
-    let s = spelled-out max-blocks 0 max-blocks l refl r in
-    rw (s .records, s .count)
+-- a head with another count
+abbrev pub with-count : Head → ℕ → Head
+with-count h n = record { kind = h .kind; spare = h .spare; p = h .p; q = h .q; n = n }
+
+-- the diff: a head with the records' number, then the records
+abbrev pub listed : Head → List Listed → List ℕ
+listed h l = head-bytes (with-count h (length l)) ++ listed-bytes l
+
+module _ (h : Head) (l : List Listed) (rises : Rising 0 max-blocks l) where
+  -- it is what is written for its map
+  pub listed-written : listed h l ≡ written h (listing l)
+  unfolding written counted
+  listed-written = let s = spelled-out max-blocks 0 max-blocks l refl rises in rw (s .records, s .count)
+
+  -- it passes the check
+  pub listed-checks : bad-head h ≡ false → check (listed h l) ≡ answer (with-count h (length l))
+  unfolding counted
+  listed-checks good =
+      let s = spelled-out max-blocks 0 max-blocks l refl rises in
+      rw (listed-written, reads-back-check h (listing l) good (listing-fits l rises), s .count)
+
+  -- and means the map
+  pub listed-names : bad-head h ≡ false → (a : ℕ) → named (listed h l) a ≡ listing l a
+  listed-names good a = rw listed-written (reads-back-map h (listing l) good (listing-fits l rises) a)

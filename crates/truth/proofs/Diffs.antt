@@ -4,12 +4,12 @@ use Prim.Native.Nat.{ℕ, _-_, _*_, _≤_, _<_}
 use mathlib.Core.Path.{_≡_, refl, sym, _∙_}
 use mathlib.Core.Option.{none, some}
 use mathlib.Core.List.{List}
-use mathlib.Core.Bool.{false}
+use mathlib.Core.Bool.{Bool, true, false}
 use native.Mathlib.Omega.{arith}
 use lib.ListN.{length}
 use Rattle.paper.specs.Limits.{max-gid, max-blocks, block-bytes}
 use Rattle.paper.specs.Image.{block}
-use Rattle.paper.specs.Diff.{Head, log-head, compared-head, bad-head, counted, written}
+use Rattle.paper.specs.Diff.{Head, is-compared, log-head, compared-head, bad-head, counted, written}
 use Rattle.paper.specs.Compare.{differing}
 use Rattle.paper.specs.History.{History, writes-in, logged, true-map, True-diff}
 use Rattle.paper.proofs.Bools.{Which, holds, fails, which}
@@ -19,6 +19,21 @@ use Rattle.paper.proofs.Names.{Fits}
 use Rattle.paper.proofs.Meaning.{reads-back-check, reads-back-map}
 use Rattle.paper.proofs.Comparing.{differing-fits}
 use Rattle.paper.proofs.Histories.{written-inside}
+
+-- the log diff of a history from p to q, in bytes
+abbrev pub log-diff : History → ℕ → ℕ → List ℕ
+log-diff H p q = written (log-head p q) (logged H p q)
+
+-- the compared diff
+abbrev pub compared-diff : History → ℕ → ℕ → List ℕ
+compared-diff H p q = written (compared-head p q) (differing (H .image p) (H .image q))
+
+-- a true diff from p to q, compared or log
+pub record Diff-of (H : History) (compared : Bool) (p q : ℕ) (d : List ℕ) : Type 0 where
+  pub is-true : True-diff H d
+  pub kind : is-compared (is-true .head) ≡ compared
+  pub from : is-true .head .p ≡ p
+  pub to : is-true .head .q ≡ q
 
 -- 1 to 65,536 whole blocks are an image
 pub whole-of : (img : List ℕ) (n : ℕ) → length img ≡ block-bytes * n → 1 ≤ n → n ≤ max-blocks → Whole-image img
@@ -44,27 +59,29 @@ module _ (H : History) (some-block : 1 ≤ H .blocks) (few : H .blocks ≤ max-b
   good h k s x y = good-passes (record { kind = k; spare = s; p = omega arith; q = omega arith; grows = omega arith })
 
   -- the log diff from p to q is true
-  pub log-true : True-diff H (written (log-head p q) (logged H p q))
+  pub log-true : Diff-of H false p q (log-diff H p q)
   unfolding true-map counted
   log-true =
       let g = good (log-head p q) (omega arith) refl refl refl in
-      record {
+      let t : True-diff H (log-diff H p q) = record {
         head = counted (log-head p q) (logged H p q);
         sound = reads-back-check _ _ g logged-fits;
         within = within;
         names = reads-back-map _ _ g logged-fits;
-      }
+      } in
+      record { is-true = t; kind = refl; from = refl; to = refl }
 
   -- the compared diff from p to q is true
-  pub compared-true : True-diff H (written (compared-head p q) (differing (H .image p) (H .image q)))
+  pub compared-true : Diff-of H true p q (compared-diff H p q)
   unfolding true-map counted
   compared-true =
       let long = H .long q within in
       let g = good (compared-head p q) (omega arith) refl refl refl in
       let fits = differing-fits (H .image p) (H .image q) (whole-of (H .image q) (H .blocks) long some-block few) (H .long p (omega arith) ∙ sym long) in
-      record {
+      let t : True-diff H (compared-diff H p q) = record {
         head = counted (compared-head p q) (differing (H .image p) (H .image q));
         sound = reads-back-check _ _ g fits;
         within = within;
         names = reads-back-map _ _ g fits;
-      }
+      } in
+      record { is-true = t; kind = refl; from = refl; to = refl }

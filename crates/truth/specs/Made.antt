@@ -4,12 +4,13 @@ use mathlib.Core.Path.{_≡_, refl, sym, _∙_}
 use mathlib.Core.List.{List, [], _∷_}
 use mathlib.Core.Bool.{Bool, false, cond, _&&_, _||_, true≢false}
 use native.Mathlib.Omega.{arith}
+use mathlib.Core.Logic.{_⊎_, inl, inr}
 use lib.Dec.{ltb, eqb}
 use lib.ListN.{length, getD}
 use borrow.Author.Tests.{ltb-true, lt-ltb}
 use Rattle.paper.specs.Limits.{block-bytes}
 use Rattle.paper.specs.Image.{block, each}
-use Rattle.paper.specs.History.{History}
+use Rattle.paper.specs.History.{History, Mixed}
 use Rattle.paper.proofs.Bools.{Which, holds, fails, which, and-true-left}
 use Rattle.paper.proofs.Images.{each-length, each-at, blocks-of-equal-bytes}
 
@@ -89,3 +90,16 @@ made start steps = record {
 -- an apply or run that was cut: the first k bytes are new, the others old
 unfoldable pub partly : ℕ → List ℕ → List ℕ → List ℕ
 partly k old new = each (length old) (λ i. cond (ltb i k) (getD new i 0) (getD old i 0))
+
+-- the first k bytes are new, the others old: a mix
+pub partly-at : (k : ℕ) (old new : List ℕ) (i : ℕ) → i < length old → getD (partly k old new) i 0 ≡ cond (ltb i k) (getD new i 0) (getD old i 0)
+unfolding partly
+partly-at k old new i l = each-at (length old) (λ j. cond (ltb j k) (getD new j 0) (getD old j 0)) i l
+
+pub partly-mixed : (k : ℕ) (old new : List ℕ) → Mixed old new (partly k old new)
+unfolding partly
+partly-mixed k old new = record { long = each-length _ _; bytes = λ i l. go i l (which (ltb i k)) }
+  where
+    go : (i : ℕ) → i < length old → Which (ltb i k) → (getD (partly k old new) i 0 ≡ getD old i 0) ⊎ (getD (partly k old new) i 0 ≡ getD new i 0)
+    go i l (holds y) = inr (partly-at k old new i l ∙ rw y)
+    go i l (fails y) = inl (partly-at k old new i l ∙ rw y)
