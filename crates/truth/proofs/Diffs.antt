@@ -9,7 +9,7 @@ use native.Mathlib.Omega.{arith}
 use lib.ListN.{length}
 use Rattle.paper.specs.Limits.{max-gid, max-blocks, block-bytes}
 use Rattle.paper.specs.Image.{block}
-use Rattle.paper.specs.Diff.{Head, is-compared, log-head, compared-head, bad-head, counted, written}
+use Rattle.paper.specs.Diff.{Head, is-compared, log-head, compared-head, bad-head, counted}
 use Rattle.paper.specs.Compare.{differing}
 use Rattle.paper.specs.History.{History, writes-in, logged, true-map, True-diff}
 use Rattle.paper.proofs.Bools.{Which, holds, fails, which}
@@ -19,14 +19,7 @@ use Rattle.paper.proofs.Names.{Fits}
 use Rattle.paper.proofs.Meaning.{reads-back-check, reads-back-map}
 use Rattle.paper.proofs.Comparing.{differing-fits}
 use Rattle.paper.proofs.Histories.{written-inside}
-
--- the log diff of a history from p to q, in bytes
-abbrev pub log-diff : History → ℕ → ℕ → List ℕ
-log-diff H p q = written (log-head p q) (logged H p q)
-
--- the compared diff
-abbrev pub compared-diff : History → ℕ → ℕ → List ℕ
-compared-diff H p q = written (compared-head p q) (differing (H .image p) (H .image q))
+use Rattle.truth.specs.Made.{log-diff, compared-diff}
 
 -- a true diff from p to q, compared or log
 pub record Diff-of (H : History) (compared : Bool) (p q : ℕ) (d : List ℕ) : Type 0 where

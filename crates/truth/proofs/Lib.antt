@@ -5,3 +5,4 @@ pub mod Demand
 pub mod Diffs
 pub mod Accepts
 pub mod Shortcuts
+pub mod Worked

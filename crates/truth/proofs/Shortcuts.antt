@@ -27,8 +27,8 @@ use Rattle.paper.proofs.Decisions.{log, Accepted}
 use Rattle.paper.proofs.Truth.{done-true, while-true}
 use Rattle.paper.proofs.Saved.{saved-reads}
 use Rattle.paper.proofs.Listed.{names, listing, listed-bytes, listed, listed-checks, listed-names}
-use Rattle.truth.specs.Made.{put, puts, after-step, number-at, filled-length, filled-at, filled-block, made, partly, partly-at, partly-mixed}
-use Rattle.truth.proofs.Diffs.{log-diff, compared-diff, Diff-of, log-true, compared-true}
+use Rattle.truth.specs.Made.{put, puts, after-step, number-at, filled-length, filled-at, filled-block, made, log-diff, compared-diff, partly, partly-at, partly-mixed}
+use Rattle.truth.proofs.Diffs.{Diff-of, log-true, compared-true}
 use Rattle.truth.proofs.Accepts.{image-passes, decide-true, settled-reads, settled-true}
 
 -- where clean g is true, a byte is that of H(g)

@@ -10,7 +10,9 @@ use lib.ListN.{length, getD}
 use borrow.Author.Tests.{ltb-true, lt-ltb}
 use Rattle.paper.specs.Limits.{block-bytes}
 use Rattle.paper.specs.Image.{block, each}
-use Rattle.paper.specs.History.{History, Mixed}
+use Rattle.paper.specs.Diff.{log-head, compared-head, written}
+use Rattle.paper.specs.Compare.{differing}
+use Rattle.paper.specs.History.{History, logged, Mixed}
 use Rattle.paper.proofs.Bools.{Which, holds, fails, which, and-true-left}
 use Rattle.paper.proofs.Images.{each-length, each-at, blocks-of-equal-bytes}
 
@@ -86,6 +88,14 @@ made start steps = record {
   inside = λ g a l w. ltb-true a (length start) (and-true-left (ltb a (length start)) (puts (getD steps g []) a) w);
   stays = λ g a l w. made-stays start steps g a w;
 }
+
+-- the log diff of a history from p to q, in bytes
+abbrev pub log-diff : History → ℕ → ℕ → List ℕ
+log-diff H p q = written (log-head p q) (logged H p q)
+
+-- the compared diff
+abbrev pub compared-diff : History → ℕ → ℕ → List ℕ
+compared-diff H p q = written (compared-head p q) (differing (H .image p) (H .image q))
 
 -- an apply or run that was cut: the first k bytes are new, the others old
 unfoldable pub partly : ℕ → List ℕ → List ℕ → List ℕ

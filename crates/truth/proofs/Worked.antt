@@ -1,0 +1,174 @@
+-- Demand 3 is not empty: the worked story is one, and every assumption holds of it. The volume is cut within a block, resumed with a merge
+-- that contains the diff that was cut, and ends clean at 3, with the image that the history has there.
+use Prim.Native.Nat.{ℕ, _+_, _*_, _/_, _%_, _<_}
+use mathlib.Core.Path.{_≡_, refl, sym, ap, _∙_}
+use mathlib.Core.Option.{some}
+use mathlib.Core.List.{List, [], _∷_}
+use mathlib.Core.Bool.{true, false, cond}
+use native.Mathlib.Omega.{arith}
+use native.Mathlib.Nat.{le-refl}
+use lib.Dec.{ltb}
+use lib.ListN.{length, getD}
+use Rattle.paper.specs.Answer.{answer}
+use Rattle.paper.specs.Image.{block, overlay}
+use Rattle.paper.specs.Diff.{log-head, named, written}
+use Rattle.paper.specs.State.{clean, pair, span, is-clean, state-bytes, read-state}
+use Rattle.paper.specs.Volume.{Further, exact, while-state, done-state, is-pair-while, decide-on, decide, apply}
+use Rattle.paper.specs.Merge.{merged, merge}
+use Rattle.paper.specs.History.{writes-in, logged, true-map, True-diff}
+use Rattle.paper.proofs.Images.{overlay-length, overlay-at, block-at}
+use Rattle.paper.proofs.States.{is-pair}
+use Rattle.paper.proofs.Saved.{saved-reads}
+use Rattle.paper.proofs.Merging.{Touching, merge-written, merges}
+use Rattle.truth.specs.Story.{True-volume, Have, given, by-merge, Contains, itself, as-first, Cut, cut-apply, at-once, finished, cut, Story, begun, then-move, Is-accepted, Holds}
+use Rattle.truth.specs.Made.{puts, after-step, number-at, filled-length, filled-at, partly-at, partly-mixed}
+use Rattle.truth.specs.Worked.{worked, first-diff, second-diff, third-diff, Given, first, second, third, both-diff, start, cut-image, after-cut, resumed, end}
+use Rattle.truth.proofs.Diffs.{Diff-of, log-true, compared-true}
+use Rattle.truth.proofs.Accepts.{decide-true, settled-reads, settled-true}
+use Rattle.truth.proofs.Demand.{merge-true, demand-three}
+
+-- ---- the diffs are true
+
+first-true : Diff-of worked false 0 1 first-diff
+unfolding first-diff
+first-true = log-true worked (omega arith) (omega arith) (omega arith) 0 1 (omega arith) (omega arith)
+
+second-true : Diff-of worked false 1 2 second-diff
+unfolding second-diff
+second-true = log-true worked (omega arith) (omega arith) (omega arith) 1 2 (omega arith) (omega arith)
+
+third-true : Diff-of worked true 2 3 third-diff
+unfolding third-diff
+third-true = compared-true worked (omega arith) (omega arith) (omega arith) 2 3 (omega arith) (omega arith)
+
+pub given-true : (d : List ℕ) → Given d → True-diff worked d
+given-true d first = first-true .is-true
+given-true d second = second-true .is-true
+given-true d third = third-true .is-true
+
+-- ---- the merge
+
+-- the two that touch are merged
+pub both-merged : merge first-diff second-diff (length both-diff) ≡ answer (record { value = length both-diff; bytes = both-diff })
+unfolding both-diff
+both-merged =
+    let h₀ = first-true .is-true .head in
+    let h₁ = second-true .is-true .head in
+    let touch : Touching h₀ h₁ = record { log₀ = first-true .kind; log₁ = second-true .kind; touch = first-true .to ∙ sym (second-true .from) } in
+    let bytes : both-diff ≡ written (log-head (h₀ .p) (h₁ .q)) (merged (named first-diff) (named second-diff)) = rw (first-true .from, second-true .to) in
+    merges _ (merge-written first-diff second-diff (first-true .is-true .sound) (second-true .is-true .sound) touch _ refl bytes) (le-refl _)
+
+-- their merge is a true log diff from 0 to 2
+both-true : Diff-of worked false 0 2 both-diff
+both-true =
+    let m = merge-true worked first-diff second-diff _ (first-true .is-true) (second-true .is-true) both-merged in
+    record { is-true = m .is-true; kind = rw (m .log); from = m .p ∙ first-true .from; to = m .q ∙ second-true .to }
+
+-- ---- each move is accepted
+
+-- the cut one
+cut-length : length cut-image ≡ 1024
+unfolding cut-image
+cut-length = partly-mixed 256 (worked .image 0) _ .long ∙ filled-length 2 _
+
+start-accepts : decide first-diff (start .saved) (start .image) ≡ answer (record { while = pair 0 1; done = clean 1 })
+unfolding decide-on exact is-clean is-pair-while while-state done-state
+start-accepts =
+    decide-true worked first-diff (first-true .is-true) _ _ (clean 0) (settled-reads 0 0 (omega arith) (omega arith)) (filled-length 2 _) (omega arith) (omega arith)
+    ∙ rw (first-true .kind, first-true .from, first-true .to)
+
+-- the resumed one
+pair-reads : read-state (state-bytes (pair 0 1)) ≡ answer (pair 0 1)
+pair-reads = saved-reads (pair 0 1) (record { b = omega arith; t = omega arith; e = omega arith; fits = is-pair refl (omega arith) refl })
+
+cut-accepts : decide both-diff (after-cut .saved) (after-cut .image) ≡ answer (record { while = span 0 2 2; done = clean 2 })
+unfolding decide-on exact is-clean is-pair-while while-state done-state
+cut-accepts =
+    decide-true worked both-diff (both-true .is-true) _ _ (pair 0 1) pair-reads cut-length (omega arith) (omega arith)
+    ∙ rw (both-true .kind, both-true .from, both-true .to)
+
+-- the last one
+resumed-accepts : decide third-diff (resumed .saved) (resumed .image) ≡ answer (record { while = pair 2 3; done = clean 3 })
+unfolding decide-on exact is-clean is-pair-while while-state done-state
+resumed-accepts =
+    decide-true worked third-diff (third-true .is-true) _ _ (clean 2) (settled-reads 2 2 (omega arith) (omega arith)) (overlay-length cut-image _ ∙ cut-length) (omega arith) (omega arith)
+    ∙ rw (third-true .kind, third-true .from, third-true .to)
+
+-- ---- the story
+
+pub start-true : True-volume worked start
+start-true = record { state = clean 0; reads = settled-reads 0 0 (omega arith) (omega arith); holds = settled-true worked 0 0 0 (omega arith) (omega arith) (omega arith) }
+
+-- the first move is a cut
+pub first-cut : Cut first-diff start after-cut
+unfolding cut-image
+first-cut = cut-apply start-accepts (partly-mixed 256 (worked .image 0) _)
+
+-- the merge is at hand, and contains the diff that was cut
+have-both : Have Given both-diff
+have-both = by-merge (length both-diff) (given first) (given second) both-merged
+
+pub both-contains : Contains Given first-diff both-diff
+both-contains = as-first (length both-diff) itself (given second) both-merged
+
+-- what is accepted is done
+done : {f : Further} (d state img : List ℕ) → decide d state img ≡ answer f → apply d state img ≡ answer (record { value = f .done; bytes = overlay img (named d) })
+unfolding apply
+done d state img e = rw e
+
+-- cut, resumed with the merge, and then the compared diff
+pub story : Story Given start (third-diff ∷ both-diff ∷ first-diff ∷ []) end
+story =
+    then-move
+    (then-move (then-move begun (given first) (cut first-cut)) have-both (finished (at-once (done both-diff _ _ cut-accepts))))
+    (given third)
+    (finished (at-once (done third-diff _ _ resumed-accepts)))
+
+-- ---- what demand 3 says of it
+
+pub all-holds : Holds worked Given start (third-diff ∷ both-diff ∷ first-diff ∷ []) end
+all-holds = demand-three worked Given start end _ given-true start-true story
+
+-- right after the cut, the merge is accepted
+pub goes-on : Is-accepted both-diff after-cut
+goes-on = demand-three worked Given start start [] given-true start-true begun .goes-on (given first) first-cut both-contains
+
+-- at the end the state that is saved is clean at 3, and the image is H(3), byte for byte
+pub end-clean : read-state (end .saved) ≡ answer (clean 3)
+end-clean = settled-reads 3 3 (omega arith) (omega arith)
+
+pub end-image : end .image ≡ worked .image 3
+unfolding is-clean
+end-image = all-holds .clean-means (clean 3) end-clean refl
+
+-- ---- the cut is a real one
+
+-- block 0 before and after
+old-byte : (i : ℕ) → i < 512 → getD (worked .image 0) i 0 ≡ 10
+unfolding number-at
+old-byte i l = let e : i / 512 ≡ 0 = omega arith in filled-at 2 _ i (omega arith) ∙ rw e
+
+new-byte : (i : ℕ) → i < 512 → getD (overlay (worked .image 0) (named first-diff)) i 0 ≡ 11
+unfolding true-map logged writes-in puts number-at after-step
+new-byte i l =
+    let img = worked .image 0 in
+    let k : i / 512 ≡ 0 = omega arith in
+    let z : (512 * 0 + i % 512) / 512 ≡ 0 = omega arith in
+    let long : length img ≡ 1024 = filled-length 2 _ in
+    let n : named first-diff 0 ≡ some (block (worked .image 1) 0) = first-true .is-true .names 0 ∙ rw (first-true .kind, first-true .from, first-true .to) in
+    overlay-at img (named first-diff) i (omega arith)
+    ∙ rw (k, n) (block-at (worked .image 1) 0 (i % 512) (omega arith) ∙ filled-at 2 _ _ (omega arith) ∙ rw z)
+
+-- byte 0 is new, and byte 256 old
+cut-byte : (i : ℕ) → i < 512 → getD cut-image i 0 ≡ cond (ltb i 256) 11 10
+unfolding cut-image
+cut-byte i l =
+    let long : length (worked .image 0) ≡ 1024 = filled-length 2 _ in
+    partly-at 256 (worked .image 0) _ i (omega arith) ∙ rw (new-byte i l, old-byte i l)
+
+-- the image is neither the old one nor the new one
+pub cut-not-old : ¬ (cut-image ≡ worked .image 0)
+cut-not-old e = omega (arith, cut-byte 0 (omega arith), old-byte 0 (omega arith), ap (λ (img : List ℕ). getD img 0 0) e)
+
+pub cut-not-new : ¬ (cut-image ≡ overlay (worked .image 0) (named first-diff))
+cut-not-new e = omega (arith, cut-byte 256 (omega arith), new-byte 256 (omega arith), ap (λ (img : List ℕ). getD img 256 0) e)
