@@ -53,8 +53,7 @@ module _ (A B C D : List ℕ) where
     ]
   ]
 
-  module _ (p q r : ℕ) (l : p < q) (m : q < r) (n : r ≤ max-gid)
-      (a : length A ≡ block-bytes) (b : length B ≡ block-bytes) (c : length C ≡ block-bytes) (d : length D ≡ block-bytes) where
+  module _ (p q r : ℕ) where
     -- the first diff, byte by byte
     abbrev pub first-diff : List ℕ
     first-diff = head-bytes (log-of p q 2) ++ (record-bytes 1 A ++ record-bytes 3 B)
@@ -67,45 +66,49 @@ module _ (A B C D : List ℕ) where
     abbrev pub merged-diff : List ℕ
     merged-diff = head-bytes (log-of p r 3) ++ (record-bytes 1 A ++ (record-bytes 3 C ++ record-bytes 6 D))
 
-    -- each lists its records
+    -- each lists its records: the first
     first-listed : first-diff ≡ listed (log-head p q) first
     unfolding listed-bytes
     first-listed = rw append-nil
 
+    -- the second
     second-listed : second-diff ≡ listed (log-head q r) second
     unfolding listed-bytes
     second-listed = rw append-nil
 
+    -- and the merge
     merged-listed : merged-diff ≡ listed (log-head p r) both
     unfolding listed-bytes
     merged-listed = rw append-nil
 
-    -- "1,578 bytes"
-    merged-length : length merged-diff ≡ 1578
-    merged-length = rw (length-append, head-length, length-append, record-length 1 A a, length-append, record-length 3 C c, record-length 6 D d)
+    module _ (l : p < q) (m : q < r) (n : r ≤ max-gid)
+        (a : length A ≡ block-bytes) (b : length B ≡ block-bytes) (c : length C ≡ block-bytes) (d : length D ≡ block-bytes) where
+      -- "1,578 bytes"
+      merged-length : length merged-diff ≡ 1578
+      merged-length = rw (length-append, head-length, length-append, record-length 1 A a, length-append, record-length 3 C c, record-length 6 D d)
 
-    -- the output for the two is the merge, if it has room
-    merge-is : (room : ℕ) → merge first-diff second-diff room ≡ output merged-diff room
-    unfolding merge
-    merge-is room =
-        let rises₀ : Rising 0 max-blocks first = omega arith in
-        let rises₁ : Rising 0 max-blocks second = omega arith in
-        let good₀ = log-good p q l (omega arith) in
-        let good₁ = log-good q r m n in
-        let touch : Touching (log-of p q 2) (log-of q r 2) = record { log₀ = refl; log₁ = refl; touch = refl } in
-        let same = written-same (log-head p r) (log-head p r) (merged (named (listed (log-head p q) first)) (named (listed (log-head q r) second))) (listing both)
-        refl refl refl refl λ k _.
-        merged-same _ _ _ _ k (listed-names (log-head p q) first rises₀ good₀ k) (listed-names (log-head q r) second rises₁ good₁ k) ∙ merged-both k in
-        rw (first-listed, second-listed, merged-listed)
-        (rw (listed-checks (log-head p q) first rises₀ good₀, listed-checks (log-head q r) second rises₁ good₁, touching-merges touch)
-        (rw (same, listed-written (log-head p r) both (omega arith))))
+      -- the output for the two is the merge, if it has room
+      merge-is : (room : ℕ) → merge first-diff second-diff room ≡ output merged-diff room
+      unfolding merge
+      merge-is room =
+          let rises₀ : Rising 0 max-blocks first = omega arith in
+          let rises₁ : Rising 0 max-blocks second = omega arith in
+          let good₀ = log-good p q l (omega arith) in
+          let good₁ = log-good q r m n in
+          let touch : Touching (log-of p q 2) (log-of q r 2) = record { log₀ = refl; log₁ = refl; touch = refl } in
+          let same = written-same (log-head p r) (log-head p r) (merged (named (listed (log-head p q) first)) (named (listed (log-head q r) second))) (listing both)
+          refl refl refl refl λ k _.
+          merged-same _ _ _ _ k (listed-names (log-head p q) first rises₀ good₀ k) (listed-names (log-head q r) second rises₁ good₁ k) ∙ merged-both k in
+          rw (first-listed, second-listed, merged-listed)
+          (rw (listed-checks (log-head p q) first rises₀ good₀, listed-checks (log-head q r) second rises₁ good₁, touching-merges touch)
+          (rw (same, listed-written (log-head p r) both (omega arith))))
 
-    -- "gives {1: A, 3: C, 6: D}, 1,578 bytes"
-    pub merge-row : merge first-diff second-diff 1578 ≡ answer (record { value = 1578; bytes = merged-diff })
-    unfolding output
-    merge-row = merge-is 1578 ∙ rw merged-length
+      -- "gives {1: A, 3: C, 6: D}, 1,578 bytes"
+      pub merge-row : merge first-diff second-diff 1578 ≡ answer (record { value = 1578; bytes = merged-diff })
+      unfolding output
+      merge-row = merge-is 1578 ∙ rw merged-length
 
-    -- "an output of 1,577 gets NoRoom"
-    pub merge-no-room : merge first-diff second-diff 1577 ≡ refuse NoRoom
-    unfolding output
-    merge-no-room = merge-is 1577 ∙ rw merged-length
+      -- "an output of 1,577 gets NoRoom"
+      pub merge-no-room : merge first-diff second-diff 1577 ≡ refuse NoRoom
+      unfolding output
+      merge-no-room = merge-is 1577 ∙ rw merged-length

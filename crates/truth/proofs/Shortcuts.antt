@@ -1,30 +1,31 @@
 -- 01, "Shortcuts that cost us the queue": each one, on a small history, makes a state that is not true. One byte is enough to show it.
 use Prim.Native.Nat.{ℕ, _/_, _<_}
 use mathlib.Core.Path.{_≡_, refl, sym, ap, _∙_}
-use mathlib.Core.Option.{none, some}
+use mathlib.Core.Option.{Option, none, some}
 use mathlib.Core.List.{List, [], _∷_, _++_}
-use mathlib.Core.Bool.{true, false}
+use mathlib.Core.Bool.{true, false, cond}
 use native.Mathlib.Omega.{arith}
 use lib.ListN.{length, getD}
+use borrow.Author.Tests.{eq-eqb}
 use lib.Seq.{drop-at}
 use Rattle.paper.specs.Answer.{answer, refuse, NotExact, Outside}
 use Rattle.paper.specs.Number.{little, spelled, field, opens}
-use Rattle.paper.specs.Image.{block, overlay, same}
+use Rattle.paper.specs.Image.{Map, block, overlay, same}
 use Rattle.paper.specs.Diff.{Head, log-head, is-compared, head-of, head-bytes, record-bytes, bad-head, check-head, check-records, read-head, check, seek, named-by, named, names-outside}
 use Rattle.paper.specs.State.{clean, settled, pair, span, is-clean, state-bytes}
 use Rattle.paper.specs.Volume.{exact, while-state, done-state, is-pair-while, decide-on, decide}
 use Rattle.paper.specs.Compare.{differing}
 use Rattle.paper.specs.History.{History, writes-in, logged, true-map, True-diff, True-byte, of-span, of-b, of-t, True-state, Mixed}
 use Rattle.paper.proofs.Answers.{answer-injective}
-use Rattle.paper.proofs.Images.{overlay-length, overlay-at, same-self}
+use Rattle.paper.proofs.Images.{overlay-at, same-self}
 use Rattle.paper.proofs.Bools.{Which, holds, fails, which}
 use Rattle.paper.proofs.Parts.{head-length}
 use Rattle.paper.proofs.Check.{sound}
-use Rattle.paper.proofs.Names.{named-by-here, outside-names}
+use Rattle.paper.proofs.Names.{unnamed, named-as, seen, named-by-here, outside-names}
 use Rattle.paper.proofs.Meaning.{stands}
 use Rattle.paper.proofs.States.{is-settled, is-span, is-pair}
 use Rattle.paper.proofs.Decisions.{log, Accepted}
-use Rattle.paper.proofs.Truth.{done-true, while-true}
+use Rattle.paper.proofs.Truth.{done-true, while-true, clean-image, true-inside}
 use Rattle.paper.proofs.Saved.{saved-reads}
 use Rattle.paper.proofs.Listed.{names, listing, listed-bytes, listed, listed-checks, listed-names}
 use Rattle.truth.specs.Made.{put, puts, after-step, number-at, filled-length, filled-at, filled-block, made, log-diff, compared-diff, partly, partly-at, partly-mixed}
@@ -32,13 +33,9 @@ use Rattle.truth.proofs.Diffs.{Diff-of, log-true, compared-true}
 use Rattle.truth.proofs.Accepts.{image-passes, decide-true, settled-reads, settled-true}
 
 -- where clean g is true, a byte is that of H(g)
-clean-byte : (H : History) (g : ℕ) (img : List ℕ) (i : ℕ) → True-state H (clean g) img → i < length img → getD img i 0 ≡ getD (H .image g) i 0
-clean-byte H g img i t l = go (t .bytes i l)
-  where
-    go : True-byte H (clean g) img i → getD img i 0 ≡ getD (H .image g) i 0
-    go (of-span k u m n x) = let e : u ≡ g = omega arith in rw e at x
-    go (of-b k x) = x
-    go (of-t k x) = x
+clean-byte : (H : History) (g : ℕ) (img : List ℕ) (i : ℕ) → True-state H (clean g) img → getD img i 0 ≡ getD (H .image g) i 0
+unfolding is-clean
+clean-byte H g img i t = ap (λ (x : List ℕ). getD x i 0) (clean-image H (clean g) img t (eq-eqb g g refl) (t .within))
 
 -- one block: 0, then 1, then 0 again
 abbrev pub there-and-back : History
@@ -55,10 +52,14 @@ left-out : (d img : List ℕ) (i : ℕ) → length img ≡ 512 → i < 512 → g
 left-out d img i e l x n t =
     let k : i / 512 ≡ 0 = omega arith in
     let new : getD (overlay img (named d)) i 0 ≡ 1 = overlay-at img (named d) i (omega arith) ∙ rw (k, n) x in
-    let old = clean-byte there-and-back 2 (overlay img (named d)) i t (rw overlay-length (omega arith)) in
+    let old = clean-byte there-and-back 2 (overlay img (named d)) i t in
     omega (arith, byte-at i l .2)
 
 -- ---- "Applying a compared 0→2 diff to a volume at 1: a block changed and changed back keeps its middle content."
+
+-- a volume at 1 is true
+pub at-one-true : True-state there-and-back (clean 1) (there-and-back .image 1)
+at-one-true = settled-true there-and-back 1 1 1 (omega arith) (omega arith) (omega arith)
 
 -- there is such a diff
 pub there-compared : Diff-of there-and-back true 0 2 (compared-diff there-and-back 0 2)
@@ -104,18 +105,42 @@ dropped-untrue d h e k p q n t =
     let z : _≡_ {A = ℕ} 0 1 = cc in
     omega arith
 
--- the merge with the one block dropped: the empty log diff from 0 to 2
+-- a content that equals the old one is dropped
+abbrev pub unless-same : List ℕ → Option (List ℕ) → Option (List ℕ)
+unless-same old none = none
+unless-same old (some c) = cond (same old c) none (some c)
+
+-- the map with such blocks dropped
+unfoldable pub dropping : List ℕ → Map → Map
+dropping old f a = unless-same (block old a) (f a)
+
+-- the empty log diff from 0 to 2
 pub emptied : List ℕ
 emptied = head-bytes (log-head 0 2)
 
+-- it passes the check
 emptied-checks : check emptied ≡ answer (log-head 0 2)
 unfolding emptied check read-head opens head-bytes head-of check-head bad-head field little spelled check-records
 emptied-checks = refl
 
+-- it names nothing
 emptied-names : (a : ℕ) → named emptied a ≡ none
 unfolding emptied named named-by seek head-of head-bytes field little spelled
 emptied-names a = refl
 
+-- so it is what is left of a true log diff, a merge or not, when such blocks are dropped
+pub emptied-is-left : (d : List ℕ) → Diff-of there-and-back false 0 2 d → (a : ℕ) → named emptied a ≡ dropping (there-and-back .image 0) (named d) a
+unfolding dropping
+emptied-is-left d t a = emptied-names a ∙ sym (elim (seen (named d) a) [
+  | unnamed n ↦ rw n
+  | named-as c n ↦
+      let from = t .from in
+      let to = t .to in
+      let zero : a ≡ 0 = omega (arith, true-inside there-and-back d (t .is-true) (omega arith) a c n) in
+      rw (zero, log-names-it d t, came-back, same-self (block (there-and-back .image 0) 0))
+])
+
+-- it is not true
 pub emptied-untrue : ¬ True-diff there-and-back emptied
 emptied-untrue = dropped-untrue emptied (log-head 0 2) emptied-checks refl refl refl (emptied-names 0)
 
@@ -135,6 +160,7 @@ emptied-wrong = left-out emptied (there-and-back .image 1) 0 (filled-length 1 _)
 abbrev pub late : History
 late = made (0 ∷ []) ([] ∷ (put 0 1 ∷ []) ∷ [])
 
+-- its bytes at 1 and at 2
 late-byte : (getD (late .image 1) 0 0 ≡ 0) × (getD (late .image 2) 0 0 ≡ 1)
 unfolding number-at after-step
 late-byte = (filled-at 1 _ 0 (omega arith), filled-at 1 _ 0 (omega arith))
@@ -166,7 +192,7 @@ dirty-not-clean d t c =
     let img = late .image 2 in
     let long : length img ≡ 512 = filled-length 1 _ in
     let new : getD (overlay img (named d)) 0 0 ≡ 1 = overlay-at img (named d) 0 (omega arith) ∙ rw (early-empty d t) (late-byte .1) in
-    let old = clean-byte late 1 (overlay img (named d)) 0 c (rw overlay-length (omega arith)) in
+    let old = clean-byte late 1 (overlay img (named d)) 0 c in
     omega (arith, late-byte .0)
 
 -- while Done is true
@@ -197,10 +223,12 @@ middle-accepted d t =
 pub half : List ℕ → List ℕ
 half d = partly 256 (there-and-back .image 1) (overlay (there-and-back .image 1) (named d))
 
+-- a mix of old and new bytes
 pub half-mixed : (d : List ℕ) → Mixed (there-and-back .image 1) (overlay (there-and-back .image 1) (named d)) (half d)
 unfolding half
 half-mixed d = partly-mixed 256 (there-and-back .image 1) (overlay (there-and-back .image 1) (named d))
 
+-- of one block
 half-length : (d : List ℕ) → length (half d) ≡ 512
 half-length d = half-mixed d .long ∙ filled-length 1 _
 
@@ -255,15 +283,21 @@ resumed-wrong d e t = left-out e (half d) 511 (half-length d) (omega arith) (hal
 
 -- ---- "Writing blocks until an address is found to be outside."
 
+-- a volume at 0 is true
+pub at-zero-true : True-state there-and-back (clean 0) (there-and-back .image 0)
+at-zero-true = settled-true there-and-back 0 0 0 (omega arith) (omega arith) (omega arith)
+
 -- a diff that names block 0, and block 1, which a volume of one block hasn't
 abbrev pub beyond : List ℕ → List ℕ → List ℕ
 beyond c c′ = listed (log-head 0 1) (names 0 c ∷ names 1 c′ ∷ [])
 
 module _ (c c′ : List ℕ) (whole : length c ≡ 512) (whole′ : length c′ ≡ 512) where
+  -- it passes the check
   beyond-checks : check (beyond c c′) ≡ answer (record { kind = 0; spare = 0; p = 0; q = 1; n = 2 })
   unfolding bad-head
   beyond-checks = listed-checks (log-head 0 1) (names 0 c ∷ names 1 c′ ∷ []) (omega arith) refl
 
+  -- it names block 1
   beyond-names : named (beyond c c′) 1 ≡ some c′
   unfolding bad-head listing
   beyond-names = listed-names (log-head 0 1) (names 0 c ∷ names 1 c′ ∷ []) (omega arith) refl 1
@@ -276,6 +310,7 @@ module _ (c c′ : List ℕ) (whole : length c ≡ 512) (whole′ : length c′ 
       let s = stands d 0 0 c (record-bytes 1 c′ ++ []) (drop-at (head-bytes (record { kind = 0; spare = 0; p = 0; q = 1; n = 2 })) _ 24 (head-length _)) (omega arith) whole in
       named-by-here d 0 0 0 (s .address) ∙ ap some (s .content)
 
+  -- which is outside
   beyond-outside : names-outside (beyond c c′) 0 2 1 ≡ true
   beyond-outside = go (which (names-outside (beyond c c′) 0 2 1))
     where
@@ -296,5 +331,5 @@ module _ (c c′ : List ℕ) (whole : length c ≡ 512) (whole′ : length c′ 
       let f = named-by (beyond c c′) 0 1 in
       let long : length img ≡ 512 = filled-length 1 _ in
       let new : getD (overlay img f) 0 0 ≡ getD c 0 0 = overlay-at img f 0 (omega arith) ∙ rw beyond-first in
-      let old = clean-byte there-and-back 0 (overlay img f) 0 t (rw overlay-length (omega arith)) in
+      let old = clean-byte there-and-back 0 (overlay img f) 0 t in
       changes (sym new ∙ old ∙ byte-at 0 (omega arith) .0)

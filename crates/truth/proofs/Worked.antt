@@ -29,18 +29,22 @@ use Rattle.truth.proofs.Demand.{merge-true, demand-three}
 
 -- ---- the diffs are true
 
+-- the first
 first-true : Diff-of worked false 0 1 first-diff
 unfolding first-diff
 first-true = log-true worked (omega arith) (omega arith) (omega arith) 0 1 (omega arith) (omega arith)
 
+-- the second
 second-true : Diff-of worked false 1 2 second-diff
 unfolding second-diff
 second-true = log-true worked (omega arith) (omega arith) (omega arith) 1 2 (omega arith) (omega arith)
 
+-- the compared one
 third-true : Diff-of worked true 2 3 third-diff
 unfolding third-diff
 third-true = compared-true worked (omega arith) (omega arith) (omega arith) 2 3 (omega arith) (omega arith)
 
+-- so all that are given
 pub given-true : (d : List ℕ) → Given d → True-diff worked d
 given-true d first = first-true .is-true
 given-true d second = second-true .is-true
@@ -66,28 +70,30 @@ both-true =
 
 -- ---- each move is accepted
 
--- the cut one
+-- the cut keeps the length
 cut-length : length cut-image ≡ 1024
 unfolding cut-image
 cut-length = partly-mixed 256 (worked .image 0) _ .long ∙ filled-length 2 _
 
+-- the move that is cut
 start-accepts : decide first-diff (start .saved) (start .image) ≡ answer (record { while = pair 0 1; done = clean 1 })
 unfolding decide-on exact is-clean is-pair-while while-state done-state
 start-accepts =
     decide-true worked first-diff (first-true .is-true) _ _ (clean 0) (settled-reads 0 0 (omega arith) (omega arith)) (filled-length 2 _) (omega arith) (omega arith)
     ∙ rw (first-true .kind, first-true .from, first-true .to)
 
--- the resumed one
+-- While of that move is read back
 pair-reads : read-state (state-bytes (pair 0 1)) ≡ answer (pair 0 1)
 pair-reads = saved-reads (pair 0 1) (record { b = omega arith; t = omega arith; e = omega arith; fits = is-pair refl (omega arith) refl })
 
+-- the move that resumes
 cut-accepts : decide both-diff (after-cut .saved) (after-cut .image) ≡ answer (record { while = span 0 2 2; done = clean 2 })
 unfolding decide-on exact is-clean is-pair-while while-state done-state
 cut-accepts =
     decide-true worked both-diff (both-true .is-true) _ _ (pair 0 1) pair-reads cut-length (omega arith) (omega arith)
     ∙ rw (both-true .kind, both-true .from, both-true .to)
 
--- the last one
+-- the last move
 resumed-accepts : decide third-diff (resumed .saved) (resumed .image) ≡ answer (record { while = pair 2 3; done = clean 3 })
 unfolding decide-on exact is-clean is-pair-while while-state done-state
 resumed-accepts =
@@ -96,6 +102,7 @@ resumed-accepts =
 
 -- ---- the story
 
+-- it begins with a true volume
 pub start-true : True-volume worked start
 start-true = record { state = clean 0; reads = settled-reads 0 0 (omega arith) (omega arith); holds = settled-true worked 0 0 0 (omega arith) (omega arith) (omega arith) }
 
@@ -104,10 +111,11 @@ pub first-cut : Cut first-diff start after-cut
 unfolding cut-image
 first-cut = cut-apply start-accepts (partly-mixed 256 (worked .image 0) _)
 
--- the merge is at hand, and contains the diff that was cut
+-- the merge is at hand
 have-both : Have Given both-diff
 have-both = by-merge (length both-diff) (given first) (given second) both-merged
 
+-- and contains the diff that was cut
 pub both-contains : Contains Given first-diff both-diff
 both-contains = as-first (length both-diff) itself (given second) both-merged
 
@@ -126,28 +134,40 @@ story =
 
 -- ---- what demand 3 says of it
 
-pub all-holds : Holds worked Given start (third-diff ∷ both-diff ∷ first-diff ∷ []) end
-all-holds = demand-three worked Given start end _ given-true start-true story
+-- after the cut
+pub cut-holds : Holds worked Given start (first-diff ∷ []) after-cut
+cut-holds = demand-three worked Given start after-cut _ given-true start-true (then-move begun (given first) (cut first-cut))
 
--- right after the cut, the merge is accepted
-pub goes-on : Is-accepted both-diff after-cut
-goes-on = demand-three worked Given start start [] given-true start-true begun .goes-on (given first) first-cut both-contains
+-- block 1, which the first diff does not name, is as it was
+pub cut-untouched : block (after-cut .image) 1 ≡ block (start .image) 1
+unfolding true-map logged writes-in puts
+cut-untouched = cut-holds .untouched 1 (first-true .is-true .names 1 ∙ rw (first-true .kind, first-true .from, first-true .to), tt)
 
--- at the end the state that is saved is clean at 3, and the image is H(3), byte for byte
+-- the merge is accepted
+pub cut-goes-on : Is-accepted both-diff after-cut
+cut-goes-on = demand-three worked Given start start [] given-true start-true begun .goes-on (given first) first-cut both-contains
+
+-- at the end
+pub end-holds : Holds worked Given start (third-diff ∷ both-diff ∷ first-diff ∷ []) end
+end-holds = demand-three worked Given start end _ given-true start-true story
+
+-- the state that is saved is clean at 3
 pub end-clean : read-state (end .saved) ≡ answer (clean 3)
 end-clean = settled-reads 3 3 (omega arith) (omega arith)
 
+-- and the image is H(3), byte for byte
 pub end-image : end .image ≡ worked .image 3
 unfolding is-clean
-end-image = all-holds .clean-means (clean 3) end-clean refl
+end-image = end-holds .clean-means (clean 3) end-clean refl
 
 -- ---- the cut is a real one
 
--- block 0 before and after
+-- block 0 before
 old-byte : (i : ℕ) → i < 512 → getD (worked .image 0) i 0 ≡ 10
 unfolding number-at
 old-byte i l = let e : i / 512 ≡ 0 = omega arith in filled-at 2 _ i (omega arith) ∙ rw e
 
+-- and after
 new-byte : (i : ℕ) → i < 512 → getD (overlay (worked .image 0) (named first-diff)) i 0 ≡ 11
 unfolding true-map logged writes-in puts number-at after-step
 new-byte i l =
@@ -159,16 +179,17 @@ new-byte i l =
     overlay-at img (named first-diff) i (omega arith)
     ∙ rw (k, n) (block-at (worked .image 1) 0 (i % 512) (omega arith) ∙ filled-at 2 _ _ (omega arith) ∙ rw z)
 
--- byte 0 is new, and byte 256 old
+-- the first half of it is new, the second old
 cut-byte : (i : ℕ) → i < 512 → getD cut-image i 0 ≡ cond (ltb i 256) 11 10
 unfolding cut-image
 cut-byte i l =
     let long : length (worked .image 0) ≡ 1024 = filled-length 2 _ in
     partly-at 256 (worked .image 0) _ i (omega arith) ∙ rw (new-byte i l, old-byte i l)
 
--- the image is neither the old one nor the new one
+-- the image is not the old one
 pub cut-not-old : ¬ (cut-image ≡ worked .image 0)
 cut-not-old e = omega (arith, cut-byte 0 (omega arith), old-byte 0 (omega arith), ap (λ (img : List ℕ). getD img 0 0) e)
 
+-- nor the new one
 pub cut-not-new : ¬ (cut-image ≡ overlay (worked .image 0) (named first-diff))
 cut-not-new e = omega (arith, cut-byte 256 (omega arith), new-byte 256 (omega arith), ap (λ (img : List ℕ). getD img 256 0) e)

@@ -53,6 +53,7 @@ left-out (w ∷ ws) a x e = go (which (eqb (w .address) a)) (left-out ws a x)
     go (holds y) later = absurd (true≢false (rw y at e))
     go (fails y) later = rw y (later (rw y at e))
 
+-- it has n blocks
 pub filled-length : (n : ℕ) (number : ℕ → ℕ) → length (filled n number) ≡ block-bytes * n
 unfolding filled
 filled-length n number = each-length _ _
@@ -97,15 +98,16 @@ log-diff H p q = written (log-head p q) (logged H p q)
 abbrev pub compared-diff : History → ℕ → ℕ → List ℕ
 compared-diff H p q = written (compared-head p q) (differing (H .image p) (H .image q))
 
--- an apply or run that was cut: the first k bytes are new, the others old
+-- an image that a cut may leave: the first k bytes are new, the others old
 unfoldable pub partly : ℕ → List ℕ → List ℕ → List ℕ
 partly k old new = each (length old) (λ i. cond (ltb i k) (getD new i 0) (getD old i 0))
 
--- the first k bytes are new, the others old: a mix
+-- its bytes
 pub partly-at : (k : ℕ) (old new : List ℕ) (i : ℕ) → i < length old → getD (partly k old new) i 0 ≡ cond (ltb i k) (getD new i 0) (getD old i 0)
 unfolding partly
 partly-at k old new i l = each-at (length old) (λ j. cond (ltb j k) (getD new j 0) (getD old j 0)) i l
 
+-- it is a mix of old and new bytes
 pub partly-mixed : (k : ℕ) (old new : List ℕ) → Mixed old new (partly k old new)
 unfolding partly
 partly-mixed k old new = record { long = each-length _ _; bytes = λ i l. go i l (which (ltb i k)) }
