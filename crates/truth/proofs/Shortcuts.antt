@@ -79,7 +79,7 @@ compared-empty d t = t .is-true .names 0 ∙ rw (t .kind, t .from, t .to, came-b
 pub compared-refused : (d : List ℕ) → Diff-of there-and-back true 0 2 d → decide d (state-bytes (clean 1)) (there-and-back .image 1) ≡ refuse NotExact
 unfolding decide-on exact is-clean
 compared-refused d t =
-    decide-true there-and-back d (t .is-true) _ _ (clean 1) (settled-reads 1 1 (omega arith) (omega arith)) (filled-length 1 _) (omega arith) (omega arith)
+    decide-true there-and-back (omega arith) (omega arith) d (t .is-true) _ _ (clean 1) (settled-reads 1 1 (omega arith) (omega arith)) (filled-length 1 _)
     ∙ rw (t .kind, t .from, t .to)
 
 -- to apply it would be wrong
@@ -178,7 +178,7 @@ pub dirty-accepted : (d : List ℕ) → Diff-of late false 0 1 d
     → decide d (state-bytes (settled 0 2)) (late .image 2) ≡ answer (record { while = span 0 1 2; done = settled 1 2 })
 unfolding decide-on exact is-clean is-pair-while while-state done-state
 dirty-accepted d t =
-    decide-true late d (t .is-true) _ _ (settled 0 2) (settled-reads 0 2 (omega arith) (omega arith)) (filled-length 1 _) (omega arith) (omega arith)
+    decide-true late (omega arith) (omega arith) d (t .is-true) _ _ (settled 0 2) (settled-reads 0 2 (omega arith) (omega arith)) (filled-length 1 _)
     ∙ rw (t .kind, t .from, t .to)
 
 -- it names nothing
@@ -216,7 +216,7 @@ pub middle-accepted : (d : List ℕ) → Diff-of there-and-back false 0 2 d
     → decide d (state-bytes (settled 0 2)) (there-and-back .image 1) ≡ answer (record { while = span 0 2 2; done = clean 2 })
 unfolding decide-on exact is-clean is-pair-while while-state done-state
 middle-accepted d t =
-    decide-true there-and-back d (t .is-true) _ _ (settled 0 2) (settled-reads 0 2 (omega arith) (omega arith)) (filled-length 1 _) (omega arith) (omega arith)
+    decide-true there-and-back (omega arith) (omega arith) d (t .is-true) _ _ (settled 0 2) (settled-reads 0 2 (omega arith) (omega arith)) (filled-length 1 _)
     ∙ rw (t .kind, t .from, t .to)
 
 -- cut when half of the block is written
@@ -262,9 +262,9 @@ is-a-span d t =
 pub span-refuses : (d e : List ℕ) → Diff-of there-and-back true 0 2 e → decide e (state-bytes (span 0 2 2)) (half d) ≡ refuse NotExact
 unfolding decide-on exact is-clean
 span-refuses d e t =
-    decide-true there-and-back e (t .is-true) _ _ (span 0 2 2)
+    decide-true there-and-back (omega arith) (omega arith) e (t .is-true) _ _ (span 0 2 2)
     (saved-reads (span 0 2 2) (record { b = omega arith; t = omega arith; e = omega arith; fits = is-span refl (omega arith) (omega arith) }))
-    (half-length d) (omega arith) (omega arith)
+    (half-length d)
     ∙ rw (t .kind, t .from, t .to)
 
 -- a pair would take it, and be called clean at 2
@@ -272,9 +272,9 @@ pub pair-takes : (d e : List ℕ) → Diff-of there-and-back true 0 2 e
     → decide e (state-bytes (pair 0 2)) (half d) ≡ answer (record { while = pair 0 2; done = clean 2 })
 unfolding decide-on exact is-clean is-pair-while while-state done-state
 pair-takes d e t =
-    decide-true there-and-back e (t .is-true) _ _ (pair 0 2)
+    decide-true there-and-back (omega arith) (omega arith) e (t .is-true) _ _ (pair 0 2)
     (saved-reads (pair 0 2) (record { b = omega arith; t = omega arith; e = omega arith; fits = is-pair refl (omega arith) refl }))
-    (half-length d) (omega arith) (omega arith)
+    (half-length d)
     ∙ rw (t .kind, t .from, t .to)
 
 -- which is wrong

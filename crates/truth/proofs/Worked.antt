@@ -1,30 +1,35 @@
 -- Demand 3 is not empty: the worked story is one, and every assumption holds of it. The volume is cut within a block, resumed with a merge
 -- that contains the diff that was cut, and ends clean at 3, with the image that the history has there.
-use Prim.Native.Nat.{ℕ, _+_, _*_, _/_, _%_, _<_}
+use Prim.Native.Nat.{ℕ, _+_, _-_, _*_, _/_, _%_, _≤_, _<_}
 use mathlib.Core.Path.{_≡_, refl, sym, ap, _∙_}
 use mathlib.Core.Option.{some}
 use mathlib.Core.List.{List, [], _∷_}
 use mathlib.Core.Bool.{true, false, cond}
 use native.Mathlib.Omega.{arith}
 use native.Mathlib.Nat.{le-refl}
+use native.Mathlib.Decide.{decLt}
+use borrow.Author.Tests.{le-leb, le-ltb, lt-ltb}
 use lib.Dec.{ltb}
 use lib.ListN.{length, getD}
-use Rattle.paper.specs.Answer.{answer}
+use Rattle.paper.specs.Answer.{answer, Wrote}
 use Rattle.paper.specs.Image.{block, overlay}
-use Rattle.paper.specs.Diff.{log-head, named, written}
+use Rattle.paper.specs.Diff.{log-head, head-of, named-by, named, written}
 use Rattle.paper.specs.State.{clean, pair, span, is-clean, state-bytes, read-state}
-use Rattle.paper.specs.Volume.{Further, exact, while-state, done-state, is-pair-while, decide-on, decide, apply}
+use Rattle.paper.specs.Volume.{Further, exact, while-state, done-state, is-pair-while, decide-on, decide, apply, run-end, run, Stretch, covers, Runs, no-run, one-more}
 use Rattle.paper.specs.Merge.{merged, merge}
 use Rattle.paper.specs.History.{writes-in, logged, true-map, True-diff}
+use Rattle.paper.proofs.Check.{Sound, sound}
+use Rattle.paper.proofs.Names.{named-sound}
+use Rattle.paper.proofs.Runs.{runs-as-apply}
 use Rattle.paper.proofs.Images.{overlay-length, overlay-at, block-at}
 use Rattle.paper.proofs.States.{is-pair}
 use Rattle.paper.proofs.Saved.{saved-reads}
 use Rattle.paper.proofs.Merging.{Touching, merge-written, merges}
-use Rattle.truth.specs.Story.{True-volume, Have, given, by-merge, Contains, itself, as-first, Cut, cut-apply, at-once, finished, cut, Story, begun, then-move, Is-accepted, Holds}
-use Rattle.truth.specs.Made.{puts, after-step, number-at, filled-length, filled-at, partly-at, partly-mixed}
+use Rattle.truth.specs.Story.{True-volume, Have, given, by-merge, Contains, itself, as-first, Cut, cut-apply, cut-run, Finish, at-once, in-runs, finished, cut, Story, begun, then-move, Is-accepted, Holds}
+use Rattle.truth.specs.Made.{puts, after-step, number-at, filled-length, filled-at, filled-block, partly, partly-at, partly-mixed}
 use Rattle.truth.specs.Worked.{worked, first-diff, second-diff, third-diff, Given, first, second, third, both-diff, start, cut-image, after-cut, resumed, end}
 use Rattle.truth.proofs.Diffs.{Diff-of, log-true, compared-true}
-use Rattle.truth.proofs.Accepts.{decide-true, settled-reads, settled-true}
+use Rattle.truth.proofs.Accepts.{decide-true, run-true, settled-reads, settled-true}
 use Rattle.truth.proofs.Demand.{merge-true, demand-three}
 
 -- ---- the diffs are true
@@ -63,10 +68,20 @@ both-merged =
     merges _ (merge-written first-diff second-diff (first-true .is-true .sound) (second-true .is-true .sound) touch _ refl bytes) (le-refl _)
 
 -- their merge is a true log diff from 0 to 2
-both-true : Diff-of worked false 0 2 both-diff
+pub both-true : Diff-of worked false 0 2 both-diff
 both-true =
     let m = merge-true worked first-diff second-diff _ (first-true .is-true) (second-true .is-true) both-merged in
     record { is-true = m .is-true; kind = rw (m .log); from = m .p ∙ first-true .from; to = m .q ∙ second-true .to }
+
+-- block 0 came back to what it was
+pub came-back : block (worked .image 2) 0 ≡ block (worked .image 0) 0
+unfolding number-at after-step
+came-back = filled-block 2 _ _ 0 λ l. refl
+
+-- and the merge names it all the same
+pub both-names : named both-diff 0 ≡ some (block (worked .image 2) 0)
+unfolding true-map logged writes-in puts
+both-names = both-true .is-true .names 0 ∙ rw (both-true .kind, both-true .from, both-true .to)
 
 -- ---- each move is accepted
 
@@ -79,7 +94,7 @@ cut-length = partly-mixed 256 (worked .image 0) _ .long ∙ filled-length 2 _
 start-accepts : decide first-diff (start .saved) (start .image) ≡ answer (record { while = pair 0 1; done = clean 1 })
 unfolding decide-on exact is-clean is-pair-while while-state done-state
 start-accepts =
-    decide-true worked first-diff (first-true .is-true) _ _ (clean 0) (settled-reads 0 0 (omega arith) (omega arith)) (filled-length 2 _) (omega arith) (omega arith)
+    decide-true worked (omega arith) (omega arith) first-diff (first-true .is-true) _ _ (clean 0) (settled-reads 0 0 (omega arith) (omega arith)) (filled-length 2 _)
     ∙ rw (first-true .kind, first-true .from, first-true .to)
 
 -- While of that move is read back
@@ -90,14 +105,14 @@ pair-reads = saved-reads (pair 0 1) (record { b = omega arith; t = omega arith; 
 cut-accepts : decide both-diff (after-cut .saved) (after-cut .image) ≡ answer (record { while = span 0 2 2; done = clean 2 })
 unfolding decide-on exact is-clean is-pair-while while-state done-state
 cut-accepts =
-    decide-true worked both-diff (both-true .is-true) _ _ (pair 0 1) pair-reads cut-length (omega arith) (omega arith)
+    decide-true worked (omega arith) (omega arith) both-diff (both-true .is-true) _ _ (pair 0 1) pair-reads cut-length
     ∙ rw (both-true .kind, both-true .from, both-true .to)
 
 -- the last move
 resumed-accepts : decide third-diff (resumed .saved) (resumed .image) ≡ answer (record { while = pair 2 3; done = clean 3 })
 unfolding decide-on exact is-clean is-pair-while while-state done-state
 resumed-accepts =
-    decide-true worked third-diff (third-true .is-true) _ _ (clean 2) (settled-reads 2 2 (omega arith) (omega arith)) (overlay-length cut-image _ ∙ cut-length) (omega arith) (omega arith)
+    decide-true worked (omega arith) (omega arith) third-diff (third-true .is-true) _ _ (clean 2) (settled-reads 2 2 (omega arith) (omega arith)) (overlay-length cut-image _ ∙ cut-length)
     ∙ rw (third-true .kind, third-true .from, third-true .to)
 
 -- ---- the story
@@ -193,3 +208,61 @@ cut-not-old e = omega (arith, cut-byte 0 (omega arith), old-byte 0 (omega arith)
 -- nor the new one
 pub cut-not-new : ¬ (cut-image ≡ overlay (worked .image 0) (named first-diff))
 cut-not-new e = omega (arith, cut-byte 256 (omega arith), new-byte 256 (omega arith), ap (λ (img : List ℕ). getD img 256 0) e)
+
+-- ---- in runs
+
+-- the merge has a record, that of block 0
+both-some : 1 ≤ both-true .is-true .head .n
+both-some = omega (arith, named-sound (sound (both-true .is-true .sound)) 0 both-names .sought .below)
+
+-- one record, and then all the others
+abbrev pub stretches : List Stretch
+stretches = record { first = 0; number = 1 } ∷ record { first = 1; number = 65536 } ∷ []
+
+-- they cover all that a diff can have
+covered : (j : ℕ) → j < 65537 → covers stretches j ≡ true
+unfolding covers
+covered j l = elim (decLt j 1) [
+  | yes k ↦ rw (le-leb 0 j (omega arith), lt-ltb j 1 k)
+  | no k ↦ rw (le-leb 0 j (omega arith), le-ltb j 1 (omega arith), le-leb 1 j (omega arith), lt-ltb j 65537 (omega arith))
+]
+
+-- what a run of the merge gives
+abbrev pub ran : List ℕ → ℕ → ℕ → Wrote ℕ
+ran img i k = record {
+  value = run-end (both-true .is-true .head) i k;
+  bytes = overlay img (named-by both-diff i (run-end (both-true .is-true .head) i k - i));
+}
+
+-- the first run at the volume that was cut, and the second after it
+abbrev pub first-run : Wrote ℕ
+first-run = ran cut-image 0 1
+
+abbrev pub second-run : Wrote ℕ
+second-run = ran (first-run .bytes) 1 65536
+
+-- the first is accepted
+first-runs : run both-diff cut-image 0 1 ≡ answer first-run
+first-runs = run-true worked (omega arith) (omega arith) both-diff (both-true .is-true) cut-image 0 1 cut-length (omega arith)
+
+-- and the second
+second-runs : run both-diff (first-run .bytes) 1 65536 ≡ answer second-run
+second-runs =
+    run-true worked (omega arith) (omega arith) both-diff (both-true .is-true) (first-run .bytes) 1 65536 (overlay-length cut-image _ ∙ cut-length) both-some
+
+-- so the move that resumes may as well be done in runs: they leave what the merge leaves at once
+pub resumed-in-runs : Finish both-diff after-cut resumed
+resumed-in-runs =
+    let s = sound (both-true .is-true .sound) in
+    let few = s .few in
+    let rs : Runs both-diff stretches cut-image (second-run .bytes) = one-more {w = first-run} first-runs (one-more {w = second-run} second-runs no-run) in
+    let same = runs-as-apply s (λ j l. covered j (omega arith)) rs in
+    in-runs cut-accepts (rw same at rs) λ j l. covered j (omega (arith, rw (s .head) at few))
+
+-- or be cut once more, within its second run
+pub cut-in-run : Cut both-diff after-cut (record { saved = state-bytes (span 0 2 2); image = partly 700 (first-run .bytes) (second-run .bytes) })
+cut-in-run =
+    cut-run (record { first = 1; number = 65536 }) cut-accepts
+    (one-more {r = record { first = 0; number = 1 }} {w = first-run} first-runs no-run)
+    second-runs
+    (partly-mixed 700 (first-run .bytes) (second-run .bytes))
