@@ -1,0 +1,3 @@
+-- Laws that the functions' proofs cite, and that each outcome is one value.
+pub mod StateLaws
+pub mod One

@@ -1,0 +1,1 @@
+-- Each outcome of this crate is one value.
