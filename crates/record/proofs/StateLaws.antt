@@ -1,15 +1,15 @@
 -- The checks of a state and of its record, an answer at a time, and the bytes of a record put into a slice part by part.
 use Prim.Native.Nat.{ℕ, _+_, _≤_, _<_}
-use mathlib.Core.Path.{_≡_, refl, sym, ap, _∙_}
+use mathlib.Core.Path.{_≡_, sym, _∙_}
 use mathlib.Core.List.{List, [], _∷_, _++_}
-use mathlib.Core.Bool.{Bool, true, false, not, _||_}
+use mathlib.Core.Bool.{true, false, not}
 use native.Mathlib.Omega.{arith}
 use lib.Dec.{leb, ltb, eqb}
-use lib.ListN.{length, getD, set, length-append, length-set}
-use borrow.Author.Tests.{ltb-true, le-ltb, lt-ltb, le-leb, lt-leb, leb-true, leb-false, eq-eqb, ne-eqb}
-use Rattle.paper.specs.Limits.{max-gid, state-size, state-mark}
+use lib.ListN.{length, getD, drop, set, length-append}
+use borrow.Author.Tests.{le-ltb, lt-ltb, leb-true, leb-false, eq-eqb, ne-eqb}
+use Rattle.paper.specs.Limits.{max-gid, state-size}
 use Rattle.paper.specs.Number.{spelled, field, opens}
-use Rattle.paper.specs.Answer.{Said, answer, refuse, BadState, NoRoom}
+use Rattle.paper.specs.Answer.{answer, refuse, guard, BadState, NoRoom, output, comes-back, over}
 use Rattle.paper.specs.State.{State, fits-kind, bad-state, state-of, state-bytes, bad-record, read-state, write-state}
 use Rattle.paper.proofs.Bools.{Which, holds, fails, which}
 use Rattle.paper.proofs.States.{Fits-kind, is-settled, is-span, is-pair, Good-state, good-of}
@@ -17,7 +17,7 @@ use Rattle.paper.proofs.Answers.{wrote, output-fits}
 use Rattle.paper.proofs.Saved.{state-length}
 use Rattle.paper.proofs.Numbers.{spelled-length}
 use Rattle.number.specs.Put.{put}
-use Rattle.number.proofs.Puts.{put-length, put-4, put-put}
+use Rattle.number.proofs.Puts.{put-4, put-put}
 
 -- ---- the values of a state
 
@@ -75,3 +75,74 @@ no-kind s h = bad-if s λ g. go (g .fits)
     go (is-settled k t e) = omega arith
     go (is-span k t e) = omega arith
     go (is-pair k t e) = omega arith
+
+-- ---- the record of a state
+
+-- a record of the right length, mark and spare byte is as its state is
+module _ (r : List ℕ) (l : length r ≡ state-size) (m : getD r 0 0 ≡ 0x57) (n : getD r 1 0 ≡ 0x53) (z : getD r 3 0 ≡ 0) where
+  framed : read-state r ≡ guard (bad-state (state-of r)) BadState (answer (state-of r))
+  unfolding read-state bad-record opens
+  framed = rw (eq-eqb _ _ l, eq-eqb _ _ m, eq-eqb _ _ n, eq-eqb _ _ z)
+
+  pub read-no-kind : 2 < getD r 2 0 → read-state r ≡ refuse BadState
+  unfolding state-of
+  read-no-kind h = rw (framed, no-kind (state-of r) h)
+
+  -- and its state is what was read of it, kind, b, t and e
+  module _ (s : State) (k : s .kind ≡ getD r 2 0) (b : s .b ≡ field r 4 8) (t : s .t ≡ field r 12 8) (e : s .e ≡ field r 20 8) where
+    parts : state-of r ≡ s
+    unfolding state-of
+    parts = λ i. record { kind = sym k i; b = sym b i; t = sym t i; e = sym e i }
+
+    pub read-bad : bad-state s ≡ true → read-state r ≡ refuse BadState
+    read-bad h = rw (framed, parts, h)
+
+    pub read-sound : bad-state s ≡ false → read-state r ≡ answer s
+    read-sound h = rw (framed, parts, h)
+
+-- ---- a state written out
+
+pub write-bad : (s : State) (room : ℕ) → bad-state s ≡ true → write-state s room ≡ refuse BadState
+unfolding write-state
+write-bad s room h = rw h
+
+pub write-short : (s : State) (room : ℕ) → bad-state s ≡ false → room < state-size → write-state s room ≡ refuse NoRoom
+unfolding write-state output
+write-short s room h k = rw (h, state-length, lt-ltb _ _ k)
+
+pub write-fits : (s : State) (room : ℕ) → bad-state s ≡ false → state-size ≤ room → write-state s room ≡ answer (wrote (state-bytes s))
+unfolding write-state
+write-fits s room h k = rw h (output-fits (state-bytes s) room (rw state-length k))
+
+-- four bytes stored and three parts put after them, the first two of eight bytes, are one put
+pub put-parts : (old x y z : List ℕ) (a b c d : ℕ) (u v w : List ℕ) → length u ≡ 8 → length v ≡ 8 → 20 + length w ≤ length old
+    → x ≡ put 4 u (set (set (set (set old 0 a) 1 b) 2 c) 3 d) → y ≡ put 12 v x → z ≡ put 20 w y
+    → z ≡ put 0 (a ∷ b ∷ c ∷ d ∷ (u ++ v ++ w)) old
+put-parts old x y z a b c d u v w l m h e f g =
+    let front : List ℕ = a ∷ b ∷ c ∷ d ∷ [] in
+    let at-12 : length (front ++ u) ≡ 12 = omega arith in
+    let at-20 : length (front ++ u ++ v) ≡ 20 = simp length-append (omega arith) in
+    let x≡ : x ≡ put 0 (front ++ u) old = e ∙ rw (put-4 old 0 a b c d (omega arith)) (put-put 0 front u old (omega arith)) in
+    let y≡ : y ≡ put 0 (front ++ u ++ v) old = f ∙ rw x≡ (rw at-12 at (put-put 0 (front ++ u) v old (omega arith))) in
+    g ∙ rw y≡ (rw at-20 at (put-put 0 (front ++ u ++ v) w old (omega arith)))
+
+-- bytes put where a slice opens stand before the rest of it
+pub put-first : (bytes old : List ℕ) → put 0 bytes old ≡ bytes ++ drop (length bytes) old
+unfolding put
+put-first bytes old = let e : 0 + length bytes ≡ length bytes = omega arith in rw e
+
+-- a good state with room answers its length, and its record stored part by part is over the slice
+pub write-answers : (s : State) (room : ℕ) → bad-state s ≡ false → state-size ≤ room → comes-back (write-state s room) ≡ answer state-size
+unfolding comes-back
+write-answers s room h l = rw (write-fits s room h l, state-length)
+
+pub write-over : (s : State) (k : ℕ) (old x y z : List ℕ) → bad-state s ≡ false → state-size ≤ length old → k ≡ s .kind
+    → x ≡ put 4 (spelled 8 (s .b)) (set (set (set (set old 0 0x57) 1 0x53) 2 k) 3 0) → y ≡ put 12 (spelled 8 (s .t)) x → z ≡ put 20 (spelled 8 (s .e)) y
+    → z ≡ over old (write-state s (length old))
+unfolding state-bytes over
+write-over s k old x y z h l n e f g =
+    let b = spelled-length 8 (s .b) in
+    let t = spelled-length 8 (s .t) in
+    let w = spelled-length 8 (s .e) in
+    let all = put-parts old x y z 0x57 0x53 k 0 (spelled 8 (s .b)) (spelled 8 (s .t)) (spelled 8 (s .e)) b t (omega arith) e f g in
+    rw (write-fits s (length old) h l, ← n) (all ∙ put-first _ old)
