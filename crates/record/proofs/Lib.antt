@@ -1,3 +1,3 @@
--- Laws that the functions' proofs cite, and that each outcome is one value.
+-- Laws that the proofs of the functions cite, and the theorems that each outcome is one value.
 pub mod StateLaws
 pub mod One

@@ -22,7 +22,7 @@ use Rattle.number.proofs.Puts.{put-4, put-put}
 -- ---- the values of a state
 
 -- more than is not at most
-pub more-not-most : (a b : ℕ) → ltb a b ≡ not (leb b a)
+more-not-most : (a b : ℕ) → ltb a b ≡ not (leb b a)
 more-not-most a b = go (which (leb b a))
   where
     go : Which (leb b a) → ltb a b ≡ not (leb b a)
@@ -43,6 +43,7 @@ module _ (s : State) (b : s .b ≤ max-gid) (t : s .t ≤ max-gid) (e : s .e ≤
   unfolding bad-state
   only-kind = rw (le-ltb max-gid (s .b) b, le-ltb max-gid (s .t) t, le-ltb max-gid (s .e) e)
 
+  -- settled: "t = b ≤ e"
   pub settled-apart : s .kind ≡ 0 → (s .t ≡ s .b → ⊥) → bad-state s ≡ true
   unfolding fits-kind
   settled-apart k h = rw (only-kind, k, ne-eqb _ _ h)
@@ -51,6 +52,7 @@ module _ (s : State) (b : s .b ≤ max-gid) (t : s .t ≤ max-gid) (e : s .e ≤
   unfolding fits-kind
   settled-order k h = rw (only-kind, k, eq-eqb _ _ h, more-not-most)
 
+  -- span: "b < t ≤ e"
   pub span-turned : s .kind ≡ 1 → s .t ≤ s .b → bad-state s ≡ true
   unfolding fits-kind
   span-turned k h = rw (only-kind, k, le-ltb _ _ h)
@@ -59,6 +61,7 @@ module _ (s : State) (b : s .b ≤ max-gid) (t : s .t ≤ max-gid) (e : s .e ≤
   unfolding fits-kind
   span-order k h = rw (only-kind, k, lt-ltb _ _ h, more-not-most)
 
+  -- pair: "b < t = e"
   pub pair-turned : s .kind ≡ 2 → s .t ≤ s .b → bad-state s ≡ true
   unfolding fits-kind
   pair-turned k h = rw (only-kind, k, le-ltb _ _ h)
@@ -68,7 +71,7 @@ module _ (s : State) (b : s .b ≤ max-gid) (t : s .t ≤ max-gid) (e : s .e ≤
   pair-apart k h = rw (only-kind, k, lt-ltb _ _ h)
 
 -- there is no kind above 2
-pub no-kind : (s : State) → 2 < s .kind → bad-state s ≡ true
+no-kind : (s : State) → 2 < s .kind → bad-state s ≡ true
 no-kind s h = bad-if s λ g. go (g .fits)
   where
     go : Fits-kind s → ⊥
@@ -102,6 +105,7 @@ module _ (r : List ℕ) (l : length r ≡ state-size) (m : getD r 0 0 ≡ 0x57) 
 
 -- ---- a state written out
 
+-- a bad state is refused, then a slice that is too short; else the answer is the record
 pub write-bad : (s : State) (room : ℕ) → bad-state s ≡ true → write-state s room ≡ refuse BadState
 unfolding write-state
 write-bad s room h = rw h
@@ -110,7 +114,7 @@ pub write-short : (s : State) (room : ℕ) → bad-state s ≡ false → room < 
 unfolding write-state output
 write-short s room h k = rw (h, state-length, lt-ltb _ _ k)
 
-pub write-fits : (s : State) (room : ℕ) → bad-state s ≡ false → state-size ≤ room → write-state s room ≡ answer (wrote (state-bytes s))
+write-fits : (s : State) (room : ℕ) → bad-state s ≡ false → state-size ≤ room → write-state s room ≡ answer (wrote (state-bytes s))
 unfolding write-state
 write-fits s room h k = rw h (output-fits (state-bytes s) room (rw state-length k))
 
