@@ -1,6 +1,6 @@
 // The state record: "57 53, kind, a zero byte, b (8), t (8), e (8)".
-use crate::refusal::Refusal;
 use crate::head::MAX_GID;
+use crate::refusal::Refusal;
 ghost use mathlib.Core.Path.{_≡_};
 ghost use Prim.Native.Nat.{_≤_};
 ghost use lib.ListN.{length};
@@ -66,7 +66,12 @@ impl State {
     pub fn settled(b: u64, e: u64) -> State
         ensures { λ r. ⌜ state r ≡ settled b e ⌝ }
     {
-        State { kind: Kind::Settled, b, t: b, e }
+        State {
+            kind: Kind::Settled,
+            b,
+            t: b,
+            e,
+        }
     }
 
     pub fn clean(g: u64) -> State
@@ -78,7 +83,12 @@ impl State {
     pub fn pair(b: u64, t: u64) -> State
         ensures { λ r. ⌜ state r ≡ pair b t ⌝ }
     {
-        State { kind: Kind::Pair, b, t, e: t }
+        State {
+            kind: Kind::Pair,
+            b,
+            t,
+            e: t,
+        }
     }
 
     // "clean if b = e", of the settled ones
