@@ -4,3 +4,4 @@ pub mod Heads
 pub mod Blocks
 pub mod States
 pub mod Images
+pub mod Records

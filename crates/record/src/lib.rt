@@ -4,3 +4,4 @@ pub mod head;
 pub mod block;
 pub mod state;
 pub mod image;
+pub mod records;
