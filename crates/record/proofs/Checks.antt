@@ -1,9 +1,9 @@
 -- What the checks of `paper` answer, one law for each answer: a broken rule is refused whatever the others say.
 use Prim.Native.Nat.{ℕ, _*_, _%_, _≤_, _<_, _/_}
-use mathlib.Core.Path.{_≡_, refl}
+use mathlib.Core.Path.{_≡_}
 use mathlib.Core.List.{List, [], _∷_}
-use mathlib.Core.Bool.{true, false, _||_, or-true, and-false}
-use lib.Dec.{ltb, eqb}
+use mathlib.Core.Bool.{true, false, or-true, and-false}
+use lib.Dec.{eqb}
 use lib.ListN.{length, getD}
 use borrow.Author.Tests.{lt-ltb, le-ltb, le-leb, eq-eqb, ne-eqb}
 use Rattle.paper.specs.Limits.{max-gid, max-blocks, max-address, block-bytes, block-mark}

@@ -25,20 +25,17 @@ address-of-requires c κs = search needs
 returns-3 : tie.Need-returns-3
 returns-3 c =
     let at = c .before .before in
-    let e = c .before .address-of .ensures in
     sym (record-large _ _ (marked _ _ _ (at .before .before .if1 .left) (at .if2 .left)) (omega arith))
 
 returns-4 : tie.Need-returns-4
 returns-4 c =
     let at = c .before .before .before in
-    let e = c .before .before .address-of .ensures in
     sym (record-low _ _ (marked _ _ _ (at .before .before .if1 .left) (at .if2 .left)) (omega arith))
 
 returns-5 : tie.Need-returns-5
 returns-5 c =
     let at = c .before .before .before in
-    let e = c .before .before .address-of .ensures in
-    rw e (sym (record-passes (record { mark = marked _ _ _ (at .before .before .if1 .left) (at .if2 .left); small = omega arith; above = omega arith })))
+    rw (c .before .before .address-of .ensures) (sym (record-passes (record { mark = marked _ _ _ (at .before .before .if1 .left) (at .if2 .left); small = omega arith; above = omega arith })))
 
 pub read-spec : {M : Type 1} → statement M
 read-spec =

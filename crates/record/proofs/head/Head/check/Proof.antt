@@ -1,7 +1,5 @@
 -- Each return is one row of the head rules: a broken rule, a count that is too large, or a head that keeps them all.
 use mathlib.Core.Path.{sym}
-use Rattle.paper.proofs.Check.{Good-head}
-use Rattle.record.specs.Heads.{head}
 use Rattle.record.proofs.Checks.{kind, spare, large-p, large-q, falls, head-refused, head-too-many, head-accepted}
 use Rattle.record.proofs.head.Head.check.Statement.{statement}
 use Rattle.record.proofs.head.Head.check.Tie as tie

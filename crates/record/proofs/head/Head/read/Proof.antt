@@ -1,5 +1,5 @@
 -- The checks come in the paper's order, each as one test; what passes them is checked as a head.
-use mathlib.Core.Path.{sym, ap, _∙_}
+use mathlib.Core.Path.{ap, _∙_}
 use borrow.Author.Needs.{needs}
 use borrow.Author.Tests.{lt-ltb, le-ltb}
 use Rattle.paper.specs.Diff.{read-head, check-head}
