@@ -77,7 +77,8 @@ check-goes-on d n i at low r b c l e f =
       place = omega (arith, c .place);
       within = omega arith;
       few = omega arith;
-      left = c .left ∙ records-more d n i low (b .address) l (sym k ∙ ap said-address f) }
+      left = c .left ∙ records-more d n i low (b .address) l (sym k ∙ ap said-address f);
+    }
 
 pub check-refuses : (d : List ℕ) (n i at low : ℕ) (r : BlockSaid) (x : Refusal) → Checking d n i at low → i < n
     → said-address r ≡ check-record (take (length d - at) (drop at d)) low → r ≡ No x → refuse (number-of x) ≡ check-records d 0 n 0

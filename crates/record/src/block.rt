@@ -25,6 +25,7 @@ impl Block {
     pub const SIZE: usize = 518;
     // where the content starts, and its length
     pub const CONTENT: usize = 6;
+
     pub const BYTES: usize = 512;
 
     // The address of the record that `rest` opens with.

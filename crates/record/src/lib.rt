@@ -1,7 +1,7 @@
 // 01, "Records" and "When the desk says no": the refusals, and the head, block and state records of any bytes.
-pub mod refusal;
-pub mod head;
 pub mod block;
-pub mod state;
+pub mod head;
 pub mod image;
 pub mod records;
+pub mod refusal;
+pub mod state;

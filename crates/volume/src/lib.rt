@@ -1,7 +1,7 @@
 // 01, "Moves of a volume": decide, apply, run, read-through and lag.
+mod admit;
 pub mod decision;
 pub mod doing;
-pub mod view;
 pub mod lag;
-mod admit;
+pub mod view;
 mod write;
