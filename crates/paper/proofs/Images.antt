@@ -12,7 +12,7 @@ use borrow.Author.Tests.{ltb-false, eqb-true, eqb-false, eq-eqb, ne-eqb, not-fal
 use lib.ListN.{length, getD, take, drop, length-take, length-drop, drop-of-length-le}
 use lib.Seq.{getD-take, getD-drop, ext-getD}
 use Rattle.paper.specs.Limits.{block-bytes, max-blocks}
-use Rattle.paper.specs.Image.{Map, bad-image, check-image, block, each, newer, overlay, same}
+use Rattle.paper.specs.Image.{Map, bad-image, check-image, block, each, byte-after, overlay, same}
 use Rattle.paper.specs.Answer.{answer, guard, BadImage}
 use Rattle.paper.proofs.Answers.{answer-injective, Passed, guard-answer}
 use Rattle.paper.proofs.Numbers.{part-length}
@@ -35,9 +35,9 @@ unfolding overlay
 overlay-length img f = each-length _ _
 
 -- byte i after an apply: the content's where block i / 512 is named, else the old one
-pub overlay-at : (img : List ℕ) (f : Map) (i : ℕ) → i < length img → getD (overlay img f) i 0 ≡ newer (f (i / 512)) (i % 512) (getD img i 0)
+pub overlay-at : (img : List ℕ) (f : Map) (i : ℕ) → i < length img → getD (overlay img f) i 0 ≡ byte-after (f (i / 512)) (i % 512) (getD img i 0)
 unfolding overlay
-overlay-at img f i h = each-at (length img) (λ k. newer (f (k / 512)) (k % 512) (getD img k 0)) i h
+overlay-at img f i h = each-at (length img) (λ k. byte-after (f (k / 512)) (k % 512) (getD img k 0)) i h
 
 pub block-length : (img : List ℕ) (a : ℕ) → length (block img a) ≡ min 512 (length img - 512 * a)
 unfolding block

@@ -7,14 +7,14 @@ use mathlib.Core.Logic.{_⊎_, inl, inr}
 use native.Mathlib.Omega.{arith}
 use lib.ListN.{length, getD}
 use lib.Seq.{ext-getD}
-use Rattle.paper.specs.Image.{Map, block, newer, overlay}
+use Rattle.paper.specs.Image.{Map, block, byte-after, overlay}
 use Rattle.paper.specs.Merge.{second-else-first, merged}
 use Rattle.paper.specs.History.{Mixed}
 use Rattle.paper.proofs.Images.{overlay-length, overlay-at, block-at, block-length, blocks-of-equal-bytes}
 
 -- an image after an apply is settled by its bytes
 pub is-overlay : (img : List ℕ) (f : Map) (now : List ℕ) → length now ≡ length img
-    → ((i : ℕ) → i < length img → getD now i 0 ≡ newer (f (i / 512)) (i % 512) (getD img i 0)) → now ≡ overlay img f
+    → ((i : ℕ) → i < length img → getD now i 0 ≡ byte-after (f (i / 512)) (i % 512) (getD img i 0)) → now ≡ overlay img f
 is-overlay img f now e h =
     ext-getD 0 now (overlay img f) (e ∙ sym (overlay-length img f)) (λ i k. h i (omega (arith, e)) ∙ sym (overlay-at img f i (omega (arith, e))))
 
@@ -25,11 +25,11 @@ overlay-overlay img f g =
     is-overlay img (merged f g) (overlay (overlay img f) g) (overlay-length (overlay img f) g ∙ overlay-length img f) (λ i k. at-byte i k (f (i / 512)) (g (i / 512)) refl refl)
   where
     at-byte : (i : ℕ) → i < length img → (c d : Option (List ℕ)) → f (i / 512) ≡ c → g (i / 512) ≡ d
-        → getD (overlay (overlay img f) g) i 0 ≡ newer (second-else-first (g (i / 512)) (f (i / 512))) (i % 512) (getD img i 0)
+        → getD (overlay (overlay img f) g) i 0 ≡ byte-after (second-else-first (g (i / 512)) (f (i / 512))) (i % 512) (getD img i 0)
     at-byte i k c d x y =
         rw (overlay-at (overlay img f) g i (rw overlay-length k), overlay-at img f i k, x, y) (last c d)
       where
-        last : (c d : Option (List ℕ)) → newer d (i % 512) (newer c (i % 512) (getD img i 0)) ≡ newer (second-else-first d c) (i % 512) (getD img i 0)
+        last : (c d : Option (List ℕ)) → byte-after d (i % 512) (byte-after c (i % 512) (getD img i 0)) ≡ byte-after (second-else-first d c) (i % 512) (getD img i 0)
         last c none = refl
         last c (some z) = refl
 

@@ -15,7 +15,7 @@ use Rattle.paper.specs.Number.{opens}
 use Rattle.paper.specs.Diff.{bad-head, check-head}
 use Rattle.paper.specs.State.{State, state-of, bad-record, read-state}
 use Rattle.paper.specs.Volume.{done-state, decide-on}
-use Rattle.paper.specs.Plan.{Shelf, blank, entry, check-entries, plan-checks, follow, is-plan, First, Plan-says, refused, listed, no-chain, kept, laid-out, No-plan}
+use Rattle.paper.specs.Plan.{Shelf, blank, entry, check-entries, plan-checks, follow, is-plan, First, Plan-says, refused, listed, no-chain, kept-shelf, laid-out, No-plan}
 use Rattle.paper.proofs.Answers.{refuse-not-answer}
 use Rattle.paper.proofs.Order.{neither-before}
 use Rattle.paper.proofs.Count.{how-many, how-many-bounded, how-many-more}
@@ -214,7 +214,7 @@ module _ (shelf shelf′ : Shelf) (same : Same-entries shelf shelf′) where
 
   -- and it is laid out alike, the shelves being of one size
   pub laid-out-past-the-count : length (shelf .heads) ≡ length (shelf′ .heads) → (r : Said (List ℕ)) → laid-out shelf r ≡ laid-out shelf′ r
-  unfolding laid-out kept
+  unfolding laid-out kept-shelf
   laid-out-past-the-count e (answer l) = rw (front, same .counts)
     where
       front : take (shelf .count) (shelf .heads) ≡ take (shelf .count) (shelf′ .heads)

@@ -11,7 +11,7 @@ use lib.Dec.{leb, ltb}
 use lib.ListN.{length, getD}
 use borrow.Author.Tests.{ltb-false, ltb-true, leb-true}
 use Rattle.paper.specs.Answer.{Said, answer, guard, _then_, Wrote, Outside, BadStart}
-use Rattle.paper.specs.Image.{Map, newer, overlay, check-image}
+use Rattle.paper.specs.Image.{Map, byte-after, overlay, check-image}
 use Rattle.paper.specs.Diff.{Head, rest, content-of, address-of, check, seek, named-by, named, names-outside}
 use Rattle.paper.specs.Volume.{run-end, run, Stretch, covers, Runs, no-run, one-more}
 use Rattle.paper.specs.Merge.{second-else-first, merged}
@@ -81,13 +81,13 @@ module _ {d : List ℕ} {h : Head} (s : Sound d h) where
 
   -- byte i of an image after one run: what the diff's map gives, or what stood there
   run-byte : {w : Wrote ℕ} (img : List ℕ) (r : Stretch) → run d img (r .first) (r .number) ≡ answer w → (i : ℕ) → i < length img
-      → (getD (w .bytes) i 0 ≡ getD img i 0) ⊎ (getD (w .bytes) i 0 ≡ newer (named d (i / 512)) (i % 512) (getD img i 0))
+      → (getD (w .bytes) i 0 ≡ getD img i 0) ⊎ (getD (w .bytes) i 0 ≡ byte-after (named d (i / 512)) (i % 512) (getD img i 0))
   run-byte {w} img r e i l =
       let (b, p) = run-gives img r e in
       go b (p (i / 512))
     where
       go : w .bytes ≡ overlay img (run-map r) → (run-map r (i / 512) ≡ none) ⊎ (run-map r (i / 512) ≡ named d (i / 512))
-          → (getD (w .bytes) i 0 ≡ getD img i 0) ⊎ (getD (w .bytes) i 0 ≡ newer (named d (i / 512)) (i % 512) (getD img i 0))
+          → (getD (w .bytes) i 0 ≡ getD img i 0) ⊎ (getD (w .bytes) i 0 ≡ byte-after (named d (i / 512)) (i % 512) (getD img i 0))
       go b (inl n) = inl (rw (b, overlay-at img (run-map r) i l, n))
       go b (inr n) = inr (rw (b, overlay-at img (run-map r) i l, n))
 
@@ -104,7 +104,7 @@ module _ {d : List ℕ} {h : Head} (s : Sound d h) where
   runs-unnamed {img = img} i l n (one-more {r = r} {w = w} e rs) =
       runs-unnamed i (rw (run-length img r e) l) n rs ∙ stays (run-byte img r e i l)
     where
-      stays : (getD (w .bytes) i 0 ≡ getD img i 0) ⊎ (getD (w .bytes) i 0 ≡ newer (named d (i / 512)) (i % 512) (getD img i 0)) → getD (w .bytes) i 0 ≡ getD img i 0
+      stays : (getD (w .bytes) i 0 ≡ getD img i 0) ⊎ (getD (w .bytes) i 0 ≡ byte-after (named d (i / 512)) (i % 512) (getD img i 0)) → getD (w .bytes) i 0 ≡ getD img i 0
       stays (inl x) = x
       stays (inr x) = x ∙ rw n
 
@@ -115,7 +115,7 @@ module _ {d : List ℕ} {h : Head} (s : Sound d h) where
   runs-new {img = img} i c l n x (one-more {r = r} {w = w} e rs) =
       runs-new i c (rw (run-length img r e) l) n (stays (run-byte img r e i l)) rs
     where
-      stays : (getD (w .bytes) i 0 ≡ getD img i 0) ⊎ (getD (w .bytes) i 0 ≡ newer (named d (i / 512)) (i % 512) (getD img i 0)) → getD (w .bytes) i 0 ≡ getD c (i % 512) 0
+      stays : (getD (w .bytes) i 0 ≡ getD img i 0) ⊎ (getD (w .bytes) i 0 ≡ byte-after (named d (i / 512)) (i % 512) (getD img i 0)) → getD (w .bytes) i 0 ≡ getD c (i % 512) 0
       stays (inl y) = y ∙ x
       stays (inr y) = y ∙ rw n
 
@@ -140,7 +140,7 @@ module _ {d : List ℕ} {h : Head} (s : Sound d h) where
   pub runs-as-apply : {rs : List Stretch} {img end : List ℕ} → ((j : ℕ) → j < h .n → covers rs j ≡ true) → Runs d rs img end → end ≡ overlay img (named d)
   runs-as-apply {rs} {img} {end} all r = is-overlay img (named d) end (runs-length r) (λ i l. go i l (named d (i / 512)) refl)
     where
-      go : (i : ℕ) → i < length img → (o : Option (List ℕ)) → named d (i / 512) ≡ o → getD end i 0 ≡ newer (named d (i / 512)) (i % 512) (getD img i 0)
+      go : (i : ℕ) → i < length img → (o : Option (List ℕ)) → named d (i / 512) ≡ o → getD end i 0 ≡ byte-after (named d (i / 512)) (i % 512) (getD img i 0)
       go i l none n = rw n (runs-unnamed i l n r)
       go i l (some c) n =
           let f = named-sound s (i / 512) n in
@@ -164,12 +164,12 @@ module _ {d : List ℕ} {h : Head} (s : Sound d h) where
           of-mid x (inl y) = inl (x ∙ y)
           of-mid x (inr y) = inr (x ∙ y)
 
-          of-new : getD now i 0 ≡ newer (named d (i / 512)) (i % 512) (getD mid i 0) → (o : Option (List ℕ)) → named d (i / 512) ≡ o
+          of-new : getD now i 0 ≡ byte-after (named d (i / 512)) (i % 512) (getD mid i 0) → (o : Option (List ℕ)) → named d (i / 512) ≡ o
               → (getD now i 0 ≡ getD img i 0) ⊎ (getD now i 0 ≡ getD (overlay img (named d)) i 0)
           of-new x none n = of-mid (x ∙ rw n) (m .bytes i l)
           of-new x (some z) n = inr (x ∙ rw (overlay-at img (named d) i l, n))
 
-          of-run : getD now i 0 ≡ getD (w .bytes) i 0 → (getD (w .bytes) i 0 ≡ getD mid i 0) ⊎ (getD (w .bytes) i 0 ≡ newer (named d (i / 512)) (i % 512) (getD mid i 0))
+          of-run : getD now i 0 ≡ getD (w .bytes) i 0 → (getD (w .bytes) i 0 ≡ getD mid i 0) ⊎ (getD (w .bytes) i 0 ≡ byte-after (named d (i / 512)) (i % 512) (getD mid i 0))
               → (getD now i 0 ≡ getD img i 0) ⊎ (getD now i 0 ≡ getD (overlay img (named d)) i 0)
           of-run x (inl y) = of-mid (x ∙ y) (m .bytes i l)
           of-run x (inr y) = of-new (x ∙ y) (named d (i / 512)) refl

@@ -12,7 +12,8 @@ use lib.ListN.{length, getD, drop-of-length-le}
 use lib.Seq.{ext-getD}
 use Rattle.paper.specs.Answer.{answer}
 use Rattle.paper.specs.Merge.{merged}
-use Rattle.paper.specs.Image.{Map, block, newer, overlay, same}
+use Rattle.paper.specs.Limits.{max-gid}
+use Rattle.paper.specs.Image.{Map, block, byte-after, overlay, same}
 use Rattle.paper.specs.Diff.{Head, is-compared, check, named}
 use Rattle.paper.specs.State.{State, is-clean}
 use Rattle.paper.specs.Volume.{is-pair-while, while-state, done-state}
@@ -21,8 +22,8 @@ use Rattle.paper.specs.History.{History, writes-in, logged, true-map, Tr
 use Rattle.paper.proofs.Bools.{Which, holds, fails, which}
 use Rattle.paper.proofs.Images.{overlay-length, overlay-at, block-length, byte-of-block, bytes-of-equal-blocks, same-true}
 use Rattle.paper.proofs.Histories.{unwritten, written-inside, logged-merge}
-use Rattle.paper.proofs.States.{Fits-kind, is-settled, is-span, is-pair, Ordered, ordered, Clean, clean-of}
-use Rattle.paper.proofs.Decisions.{Why, log, from-clean, from-pair, Accepted, Pair-from, was-clean, same-pair, pair-from, pair-top}
+use Rattle.paper.proofs.States.{Good-state, good-back, Fits-kind, is-settled, is-span, is-pair, Ordered, ordered, Clean, clean-of}
+use Rattle.paper.proofs.Decisions.{Why, log, from-clean, from-pair, Accepted, Pair-from, was-clean, same-pair, pair-from, pair-top, while-good, done-good}
 
 -- byte i of x is that of H(u) for some u from lo to hi
 pub record At-gid (H : History) (x i lo hi : ℕ) : Type 0 where
@@ -55,11 +56,11 @@ of-two {H} {i = i} (same-pair k q) (of-t k′ x) = new (x ∙ ap (λ (v : ℕ). 
 
 -- a log diff's new byte: of some gid from q to the larger of q and e
 pub log-byte : (H : History) (p q b e x i : ℕ) → p ≤ b → b ≤ q → q ≤ H .last → At-gid H x i b e
-    → At-gid H (newer (logged H p q (i / 512)) (i % 512) x) i q (max q e)
+    → At-gid H (byte-after (logged H p q (i / 512)) (i % 512) x) i q (max q e)
 unfolding logged
 log-byte H p q b e x i l m n g = go (which (writes-in H p (q - p) (i / 512)))
   where
-    go : Which (writes-in H p (q - p) (i / 512)) → At-gid H (newer (logged H p q (i / 512)) (i % 512) x) i q (max q e)
+    go : Which (writes-in H p (q - p) (i / 512)) → At-gid H (byte-after (logged H p q (i / 512)) (i % 512) x) i q (max q e)
     go (holds y) = record { gid = q; from = omega arith; to = omega arith; byte = rw y (byte-of-block (H .image q) i) }
     go (fails y) =
         elim (decLe (g .gid) q) [
@@ -73,27 +74,30 @@ log-byte H p q b e x i l m n g = go (which (writes-in H p (q - p) (i / 512)))
         ]
 
 -- a compared diff's new byte, where the old one is that of H(p) or of H(q): that of H(q)
-pub compared-byte : (H : History) (p q x i : ℕ) → Of-two H x i p q → newer (differing (H .image p) (H .image q) (i / 512)) (i % 512) x ≡ getD (H .image q) i 0
+pub compared-byte : (H : History) (p q x i : ℕ) → Of-two H x i p q → byte-after (differing (H .image p) (H .image q) (i / 512)) (i % 512) x ≡ getD (H .image q) i 0
 unfolding differing
 compared-byte H p q x i o = go (which (same (block (H .image p) (i / 512)) (block (H .image q) (i / 512)))) o
   where
     go : Which (same (block (H .image p) (i / 512)) (block (H .image q) (i / 512))) → Of-two H x i p q
-        → newer (differing (H .image p) (H .image q) (i / 512)) (i % 512) x ≡ getD (H .image q) i 0
+        → byte-after (differing (H .image p) (H .image q) (i / 512)) (i % 512) x ≡ getD (H .image q) i 0
     go (fails y) w = rw y (byte-of-block (H .image q) i)
     go (holds y) (old e) = rw y (e ∙ bytes-of-equal-blocks _ _ i (same-true _ _ y))
     go (holds y) (new e) = rw y e
 
-module _ (H : History) (h : Head) (s : State) (a : Accepted h s) (f : Fits-kind s) (l : h .q ≤ H .last) where
+module _ (H : History) (h : Head) (s : State) (a : Accepted h s) (good : Good-state s) (most : h .q ≤ max-gid) (l : h .q ≤ H .last) where
+  f : Fits-kind s
+  f = good .fits
+
   -- byte i after an accepted apply is of some gid from q to the larger of q and e
-  pub new-byte : (img : List ℕ) (i : ℕ) → True-byte H s img i → At-gid H (newer (true-map H h (i / 512)) (i % 512) (getD img i 0)) i (h .q) (max (h .q) (s .e))
+  pub new-byte : (img : List ℕ) (i : ℕ) → True-byte H s img i → At-gid H (byte-after (true-map H h (i / 512)) (i % 512) (getD img i 0)) i (h .q) (max (h .q) (s .e))
   unfolding true-map
   new-byte img i t = go (a .why)
     where
-      by-compared : is-compared h ≡ true → h .p ≡ s .b → Pair-from h s → At-gid H (newer (true-map H h (i / 512)) (i % 512) (getD img i 0)) i (h .q) (max (h .q) (s .e))
+      by-compared : is-compared h ≡ true → h .p ≡ s .b → Pair-from h s → At-gid H (byte-after (true-map H h (i / 512)) (i % 512) (getD img i 0)) i (h .q) (max (h .q) (s .e))
       by-compared c p w =
           record { gid = h .q; from = omega arith; to = omega arith; byte = rw (c, p) (compared-byte H (s .b) (h .q) (getD img i 0) i (of-two w t)) }
 
-      go : Why h s → At-gid H (newer (true-map H h (i / 512)) (i % 512) (getD img i 0)) i (h .q) (max (h .q) (s .e))
+      go : Why h s → At-gid H (byte-after (true-map H h (i / 512)) (i % 512) (getD img i 0)) i (h .q) (max (h .q) (s .e))
       go (log c) = rw c (log-byte H (h .p) (h .q) (s .b) (s .e) (getD img i 0) i (a .meets) (omega (arith, a .ahead)) l (of-some-gid f t))
       go (from-clean c p k) = by-compared c p (was-clean k)
       go (from-pair c p k q) = by-compared c p (same-pair k q)
@@ -106,6 +110,7 @@ module _ (H : History) (h : Head) (s : State) (a : Accepted h s) (f : Fits-kind 
     pub done-true : True-state H (done-state h s) (overlay img named-map)
     unfolding done-state
     done-true = record {
+      legal = good-back _ (done-good h s most good);
       long = overlay-length img named-map ∙ t .long;
       within = omega (arith, t .within);
       bytes = λ i k.
@@ -116,7 +121,7 @@ module _ (H : History) (h : Head) (s : State) (a : Accepted h s) (f : Fits-kind 
     -- cut: While is true of any mix
     pub while-true : (now : List ℕ) → Mixed img (overlay img named-map) now → True-state H (while-state h s) now
     unfolding while-state
-    while-true now m = record { long = m .long ∙ t .long; within = omega (arith, t .within); bytes = mixed-byte }
+    while-true now m = record { legal = good-back _ (while-good h s most good a); long = m .long ∙ t .long; within = omega (arith, t .within); bytes = mixed-byte }
       where
         mixed-byte : (i : ℕ) → i < length now → True-byte H (while-state h s) now i
         mixed-byte i k = go (which (is-pair-while h s)) (m .bytes i k′)

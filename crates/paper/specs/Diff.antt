@@ -26,7 +26,7 @@ head-of d = record { kind = getD d 2 0; spare = getD d 3 0; p = field d 4 8; q =
 unfoldable pub head-bytes : Head → List ℕ
 head-bytes h = head-mark ++ h .kind ∷ h .spare ∷ spelled 8 (h .p) ++ spelled 8 (h .q) ++ spelled 4 (h .n)
 
--- a log head and a compared head from p to q, with no count yet
+-- a log head and a compared head from p to q; `written` fills in the count
 abbrev pub log-head : ℕ → ℕ → Head
 log-head p q = record { kind = 0; spare = 0; p = p; q = q; n = 0 }
 
@@ -40,7 +40,7 @@ is-compared h = eqb (h .kind) 1
 unfoldable pub bad-head : Head → Bool
 bad-head h = ltb 1 (h .kind) || not (eqb (h .spare) 0) || ltb max-gid (h .p) || ltb max-gid (h .q) || leb (h .q) (h .p)
 
--- the head rules, 3 and then 4; "TooMany: n above 65,536". The entries of a shelf obey them too.
+-- the head rules, 3 and then 4; TooMany: "n above 65,536". The entries of a shelf obey them too.
 unfoldable pub check-head : Head → Said Head
 check-head h = guard (bad-head h) BadHead (guard (ltb max-blocks (h .n)) TooMany (answer h))
 
@@ -99,7 +99,7 @@ unfoldable pub seek : List ℕ → ℕ → ℕ → ℕ → Option ℕ
 seek d a i zero = none
 seek d a i (suc k) = cond (eqb (address-of (rest d i)) a) (some i) (seek d a (suc i) k)
 
--- the map of k records of d from record i on
+-- the map of the k records of d from record i on
 unfoldable pub named-by : List ℕ → ℕ → ℕ → Map
 named-by d i k a = Option·map (λ j. content-of (rest d j)) (seek d a i k)
 

@@ -10,11 +10,11 @@ use Rattle.paper.specs.Limits.{block-bytes}
 use Rattle.paper.specs.Answer.{answer}
 use Rattle.paper.specs.Image.{Map, block}
 use Rattle.paper.specs.Diff.{Head, is-compared, check, named}
-use Rattle.paper.specs.State.{State}
+use Rattle.paper.specs.State.{State, bad-state}
 use Rattle.paper.specs.Compare.{differing}
 
 -- "A history gives an image H(g) for each gid g from 0 up to some last gid; step g writes some blocks, leaves every other block as it was,
--- and so leads from H(g) to H(g+1)." "all its images have the volume's length"
+-- and so leads from H(g) to H(g+1)." "all its images have the volume's length". Histories longer or larger than 01's limits are in too.
 pub record History : Type 0 where
   pub last : ℕ
   pub blocks : ℕ
@@ -50,7 +50,9 @@ pub data True-byte (H : History) (s : State) (img : List ℕ) (i : ℕ) : Type 0
   of-b : s .kind ≡ 2 → getD img i 0 ≡ getD (H .image (s .b)) i 0 → True-byte H s img i
   of-t : s .kind ≡ 2 → getD img i 0 ≡ getD (H .image (s .t)) i 0 → True-byte H s img i
 
+-- A state is true of an image: it is a state, its gids lie within the history, and every byte is true.
 pub record True-state (H : History) (s : State) (img : List ℕ) : Type 0 where
+  pub legal : bad-state s ≡ false
   pub long : length img ≡ block-bytes * H .blocks
   pub within : s .e ≤ H .last
   pub bytes : (i : ℕ) → i < length img → True-byte H s img i

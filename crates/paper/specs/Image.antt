@@ -29,14 +29,14 @@ unfoldable pub each : ℕ → (ℕ → ℕ) → List ℕ
 each zero f = []
 each (suc n) f = f 0 ∷ each n (λ k. f (suc k))
 
--- byte k of a block: of the content that is given, else of the old block
-abbrev pub newer : Option (List ℕ) → ℕ → ℕ → ℕ
-newer none k old = old
-newer (some c) k old = getD c k 0
+-- byte k of a block after an apply: the content's where one is given, else the old one
+abbrev pub byte-after : Option (List ℕ) → ℕ → ℕ → ℕ
+byte-after none k old = old
+byte-after (some c) k old = getD c k 0
 
 -- "Applying gives the diff's block where one is named, else the old one."
 unfoldable pub overlay : List ℕ → Map → List ℕ
-overlay img f = each (length img) (λ k. newer (f (k / block-bytes)) (k % block-bytes) (getD img k 0))
+overlay img f = each (length img) (λ k. byte-after (f (k / block-bytes)) (k % block-bytes) (getD img k 0))
 
 -- two lists of bytes are the same
 unfoldable pub same : List ℕ → List ℕ → Bool

@@ -1,4 +1,4 @@
--- 01, "Records": every limit, size and mark, each once.
+-- 01, "History and truth" and "Records": every limit, size and mark, each once.
 use Prim.Native.Nat.{ℕ}
 use mathlib.Core.List.{List, [], _∷_}
 

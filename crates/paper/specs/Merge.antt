@@ -17,7 +17,7 @@ unfoldable pub merged : Map → Map → Map
 merged first second a = second-else-first (second a) (first a)
 
 -- Compared: "either diff of a merge is compared". Apart: "the first's q is not the second's p".
--- "A merge's head is log, the first's p, the second's q." Its count is that of the map written.
+-- "A merge's head is log, the first's p, the second's q." `written` fills in the count.
 unfoldable pub merge-heads : Head → Head → Said Head
 merge-heads h₀ h₁ =
     guard (is-compared h₀ || is-compared h₁) Compared

@@ -11,7 +11,7 @@ use Rattle.paper.specs.Diff.{Head, check-head}
 use Rattle.paper.specs.State.{State, is-clean, read-state}
 use Rattle.paper.specs.Volume.{decide-on}
 
--- "a value with a fixed number of places, numbered from 0, and a count of entries"
+-- "a value with a fixed number of places, numbered from 0, and a count of entries". The code's array has 96 places.
 pub record Shelf : Type 0 where
   pub heads : List Head
   pub count : ℕ
@@ -36,7 +36,8 @@ plan-checks shelf state target =
     then λ _. read-state state
     then λ s. guard (ltb max-gid target) BadGid (answer s))
 
--- "Starting from the state, each diff in turn is accepted by rules 11 to 14 on heads alone and run to Done": the state at the end of a list of places
+-- "Starting from the state, each diff in turn is accepted by rules 11 to 14 on heads alone and run to Done": the state at the end of a list of places.
+-- A list that cannot be followed is no plan, whatever number it gets here.
 unfoldable pub follow : Shelf → List ℕ → State → Said State
 follow shelf [] s = answer s
 follow shelf (i ∷ places) s =
@@ -84,12 +85,12 @@ pub record Plan : Type 0 where
   pub places : List ℕ
   pub shelf : Shelf
 
-unfoldable pub kept : Shelf → Shelf
-kept shelf = record { heads = take (shelf .count) (shelf .heads) ++ replicate (max-places - shelf .count) blank; count = shelf .count }
+unfoldable pub kept-shelf : Shelf → Shelf
+kept-shelf shelf = record { heads = take (shelf .count) (shelf .heads) ++ replicate (max-places - shelf .count) blank; count = shelf .count }
 
 -- a refusal gives "counts, lengths and places zero"
 unfoldable pub laid-out : Shelf → Said (List ℕ) → Plan
 laid-out shelf (answer places) =
-    record { length = length places; places = places ++ replicate (max-places - length places) 0; shelf = kept shelf }
+    record { length = length places; places = places ++ replicate (max-places - length places) 0; shelf = kept-shelf shelf }
 laid-out shelf (refuse k) =
     record { length = 0; places = replicate max-places 0; shelf = record { heads = replicate max-places blank; count = 0 } }

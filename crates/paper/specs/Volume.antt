@@ -8,7 +8,7 @@ use lib.Dec.{leb, ltb, eqb}
 use lib.IntN.{ℤ, pos, _-ℤ_}
 use lib.ListN.{take, drop}
 use Rattle.paper.specs.Limits.{max-gid, block-bytes, head-size, record-size, content-at}
-use Rattle.paper.specs.Answer.{Said, answer, guard, _then_, Wrote, Outside, BadStart, Behind, Gap, Short, NotExact, BadGid}
+use Rattle.paper.specs.Answer.{Said, answer, refuse, guard, _then_, Wrote, Outside, BadStart, Behind, Gap, Short, NotExact, BadGid}
 use Rattle.paper.specs.Image.{check-image, overlay}
 use Rattle.paper.specs.Diff.{Head, is-compared, check, seek, named, named-by, names-outside}
 use Rattle.paper.specs.State.{State, settled, is-clean, read-state}
@@ -131,6 +131,11 @@ read-through d img a =
     check d
     then λ h. check-image img
     then λ m. guard (names-outside d 0 (h .n) m || leb m a) Outside (answer (view-of a (seek d a 0 (h .n))))
+
+-- "views empty": what is handed out
+unfoldable pub seen : List ℕ → List ℕ → Said View → List ℕ
+seen d img (answer v) = shown d img v
+seen d img (refuse k) = []
 
 -- ---- lag
 

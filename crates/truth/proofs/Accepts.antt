@@ -17,7 +17,7 @@ use Rattle.paper.specs.History.{History, True-diff, True-state, of-span}
 use Rattle.paper.proofs.Images.{whole-passes}
 use Rattle.paper.proofs.Check.{sound, good-head}
 use Rattle.paper.proofs.Names.{outside-names}
-use Rattle.paper.proofs.States.{is-settled}
+use Rattle.paper.proofs.States.{is-settled, Good-state, good-back}
 use Rattle.paper.proofs.Saved.{saved-reads}
 use Rattle.paper.proofs.Truth.{true-inside}
 use Rattle.truth.proofs.Diffs.{whole-of}
@@ -46,10 +46,19 @@ module _ (H : History) (some-block : 1 ≤ H .blocks) (few : H .blocks ≤ max-b
   unfolding run
   run-true img i k long l = rw (t .sound, image-passes img (H .blocks) long some-block few, all-inside, le-ltb (t .head .n) i l)
 
--- a settled state is read back
+-- a settled state is a state
+pub settled-good : (b e : ℕ) → b ≤ e → e ≤ max-gid → Good-state (settled b e)
+settled-good b e l m = record { b = omega arith; t = omega arith; e = m; fits = is-settled refl refl l }
+
+-- and is read back
 pub settled-reads : (b e : ℕ) → b ≤ e → e ≤ max-gid → read-state (state-bytes (settled b e)) ≡ answer (settled b e)
-settled-reads b e l m = saved-reads (settled b e) (record { b = omega arith; t = omega arith; e = m; fits = is-settled refl refl l })
+settled-reads b e l m = saved-reads (settled b e) (settled-good b e l m)
 
 -- settled from b to e is true of H(u), where u is one of b .. e
-pub settled-true : (H : History) (b u e : ℕ) → b ≤ u → u ≤ e → e ≤ H .last → True-state H (settled b e) (H .image u)
-settled-true H b u e l m n = record { long = H .long u (omega arith); within = n; bytes = λ i k. of-span (omega arith) u l m refl }
+pub settled-true : (H : History) (b u e : ℕ) → b ≤ u → u ≤ e → e ≤ H .last → e ≤ max-gid → True-state H (settled b e) (H .image u)
+settled-true H b u e l m n o =
+    record {
+      legal = good-back _ (settled-good b e (omega arith) o);
+      long = H .long u (omega arith);
+      within = n;
+      bytes = λ i k. of-span (omega arith) u l m refl }

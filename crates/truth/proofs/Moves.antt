@@ -92,7 +92,7 @@ module _ (H : History) (d : List ℕ) (t : True-diff H d) (v : Volume) (true-v :
       record {
         state = while-state (t .head) s;
         reads = cut-reads c;
-        holds = while-true H (t .head) s a (state-good .fits) (t .within) (named d) (t .names) (v .image) (true-v .holds) (w .image) (c .mixed);
+        holds = while-true H (t .head) s a state-good (head-good .q) (t .within) (named d) (t .names) (v .image) (true-v .holds) (w .image) (c .mixed);
       }
 
   pub finish-true : {w : Volume} → Finish-leaves d v w → True-volume H w
@@ -103,7 +103,7 @@ module _ (H : History) (d : List ℕ) (t : True-diff H d) (v : Volume) (true-v :
       record {
         state = done-state (t .head) s;
         reads = rw (c .saved, g) (saved-reads _ good);
-        holds = rw (c .written) (done-true H (t .head) s a (state-good .fits) (t .within) (named d) (t .names) (v .image) (true-v .holds));
+        holds = rw (c .written) (done-true H (t .head) s a state-good (head-good .q) (t .within) (named d) (t .names) (v .image) (true-v .holds));
       }
 
   pub move-true : {w : Volume} → Move d v w → True-volume H w

@@ -30,7 +30,7 @@ use Rattle.paper.proofs.Saved.{saved-reads}
 use Rattle.paper.proofs.Listed.{names, listing, listed-bytes, listed, listed-checks, listed-names}
 use Rattle.truth.specs.Made.{put, puts, after-step, number-at, filled-length, filled-at, filled-block, made, log-diff, compared-diff, partly, partly-at, partly-mixed}
 use Rattle.truth.proofs.Diffs.{Diff-of, log-true, compared-true}
-use Rattle.truth.proofs.Accepts.{image-passes, decide-true, settled-reads, settled-true}
+use Rattle.truth.proofs.Accepts.{image-passes, decide-true, settled-good, settled-reads, settled-true}
 
 -- where clean g is true, a byte is that of H(g)
 clean-byte : (H : History) (g : ℕ) (img : List ℕ) (i : ℕ) → True-state H (clean g) img → getD img i 0 ≡ getD (H .image g) i 0
@@ -59,7 +59,7 @@ left-out d img i e l x n t =
 
 -- a volume at 1 is true
 pub at-one-true : True-state there-and-back (clean 1) (there-and-back .image 1)
-at-one-true = settled-true there-and-back 1 1 1 (omega arith) (omega arith) (omega arith)
+at-one-true = settled-true there-and-back 1 1 1 (omega arith) (omega arith) (omega arith) (omega arith)
 
 -- there is such a diff
 pub there-compared : Diff-of there-and-back true 0 2 (compared-diff there-and-back 0 2)
@@ -167,7 +167,7 @@ late-byte = (filled-at 1 _ 0 (omega arith), filled-at 1 _ 0 (omega arith))
 
 -- a dirty volume from 0 to 2 that already holds 2 is true
 pub dirty-true : True-state late (settled 0 2) (late .image 2)
-dirty-true = settled-true late 0 2 2 (omega arith) (omega arith) (omega arith)
+dirty-true = settled-true late 0 2 2 (omega arith) (omega arith) (omega arith) (omega arith)
 
 -- there is a true log diff from 0 to 1
 pub late-log : Diff-of late false 0 1 (log-diff late 0 1)
@@ -203,13 +203,13 @@ dirty-done d t =
     let from = t .from in
     let to = t .to in
     let a : Accepted h (settled 0 2) = record { ahead = omega arith; meets = omega arith; long = omega arith; why = log (t .kind) } in
-    rw to at (done-true late h (settled 0 2) a (is-settled refl refl (omega arith)) (t .is-true .within) (named d) (t .is-true .names) (late .image 2) dirty-true)
+    rw to at (done-true late h (settled 0 2) a (settled-good 0 2 (omega arith) (omega arith)) (omega arith) (t .is-true .within) (named d) (t .is-true .names) (late .image 2) dirty-true)
 
 -- ---- "Treating every cut volume as a pair, then resuming with a compared diff."
 
 -- a dirty volume from 0 to 2 that holds the middle content is true
 pub middle-true : True-state there-and-back (settled 0 2) (there-and-back .image 1)
-middle-true = settled-true there-and-back 0 1 2 (omega arith) (omega arith) (omega arith)
+middle-true = settled-true there-and-back 0 1 2 (omega arith) (omega arith) (omega arith) (omega arith)
 
 -- a true log diff from 0 to 2 is accepted, and While is a span
 pub middle-accepted : (d : List ℕ) → Diff-of there-and-back false 0 2 d
@@ -256,7 +256,7 @@ is-a-span d t =
     let from = t .from in
     let to = t .to in
     let a : Accepted h (settled 0 2) = record { ahead = omega arith; meets = omega arith; long = omega arith; why = log (t .kind) } in
-    rw (t .kind, to) at (while-true there-and-back h (settled 0 2) a (is-settled refl refl (omega arith)) (t .is-true .within) (named d) (t .is-true .names) (there-and-back .image 1) middle-true (half d) (half-mixed d))
+    rw (t .kind, to) at (while-true there-and-back h (settled 0 2) a (settled-good 0 2 (omega arith) (omega arith)) (omega arith) (t .is-true .within) (named d) (t .is-true .names) (there-and-back .image 1) middle-true (half d) (half-mixed d))
 
 -- the span refuses the compared diff
 pub span-refuses : (d e : List ℕ) → Diff-of there-and-back true 0 2 e → decide e (state-bytes (span 0 2 2)) (half d) ≡ refuse NotExact
@@ -285,7 +285,7 @@ resumed-wrong d e t = left-out e (half d) 511 (half-length d) (omega arith) (hal
 
 -- a volume at 0 is true
 pub at-zero-true : True-state there-and-back (clean 0) (there-and-back .image 0)
-at-zero-true = settled-true there-and-back 0 0 0 (omega arith) (omega arith) (omega arith)
+at-zero-true = settled-true there-and-back 0 0 0 (omega arith) (omega arith) (omega arith) (omega arith)
 
 -- a diff that names block 0, and block 1, which a volume of one block hasn't
 abbrev pub beyond : List ℕ → List ℕ → List ℕ

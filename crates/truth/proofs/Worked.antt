@@ -119,7 +119,7 @@ resumed-accepts =
 
 -- it begins with a true volume
 pub start-true : True-volume worked start
-start-true = record { state = clean 0; reads = settled-reads 0 0 (omega arith) (omega arith); holds = settled-true worked 0 0 0 (omega arith) (omega arith) (omega arith) }
+start-true = record { state = clean 0; reads = settled-reads 0 0 (omega arith) (omega arith); holds = settled-true worked 0 0 0 (omega arith) (omega arith) (omega arith) (omega arith) }
 
 -- the first move is a cut
 pub first-cut : Cut first-diff start after-cut

@@ -1,0 +1,3 @@
+-- Laws that the functions' proofs cite, and that the check has one outcome.
+pub mod Answers
+pub mod One

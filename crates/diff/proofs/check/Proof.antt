@@ -1,0 +1,36 @@
+use borrow.Author.Needs.{needs}
+use Rattle.diff.proofs.check.Statement.{statement}
+use Rattle.diff.proofs.check.Tie as tie
+use Rattle.diff.proofs.check.Reads as reads
+use Rattle.diff.proofs.check.Lts as lts
+use Rattle.diff.proofs.check_body.Reads as check-body-reads
+use Rattle.record.proofs.head.Head.read.Reads as read-reads
+
+read-requires : tie.Need-read-requires
+read-requires c κs = search needs
+
+enum-known-said : tie.Need-enum-known-said
+enum-known-said c = search needs
+
+enum-known-said-2 : tie.Need-enum-known-said-2
+enum-known-said-2 c = search needs
+
+check-body-requires : tie.Need-check-body-requires
+check-body-requires c κs = ?
+
+returns : tie.Need-returns
+returns c = ?
+
+returns-2 : tie.Need-returns-2
+returns-2 c = search needs
+
+pub check-spec : {M : Type 1} → statement M
+check-spec =
+    tie.close
+    (tie.spec
+    read-requires
+    enum-known-said
+    enum-known-said-2
+    check-body-requires
+    returns
+    returns-2)

@@ -1,7 +1,0 @@
-// 01, "Moves of a volume": decide, apply, run, read-through and lag.
-mod admit;
-pub mod decision;
-pub mod doing;
-pub mod lag;
-pub mod view;
-mod write;
