@@ -1,3 +1,6 @@
+use mathlib.Core.Path.{sym, ap, _∙_}
+use Rattle.record.specs.Heads.{said-head}
+use Rattle.diff.proofs.Answers.{head-no}
 use borrow.Author.Needs.{needs}
 use Rattle.diff.proofs.check.Statement.{statement}
 use Rattle.diff.proofs.check.Tie as tie
@@ -16,10 +19,10 @@ enum-known-said-2 : tie.Need-enum-known-said-2
 enum-known-said-2 c = search needs
 
 check-body-requires : tie.Need-check-body-requires
-check-body-requires c κs = ?
+check-body-requires c κs = sym (c .before .before .before .read .ensures) ∙ ap said-head (c .before .said2 .given .1)
 
 returns : tie.Need-returns
-returns c = ?
+returns c = head-no _ _ (sym (c .before .before .before .read .ensures) ∙ ap said-head (c .before .said .given .1))
 
 returns-2 : tie.Need-returns-2
 returns-2 c = search needs
