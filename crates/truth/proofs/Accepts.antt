@@ -61,4 +61,5 @@ settled-true H b u e l m n o =
       legal = good-back _ (settled-good b e (omega arith) o);
       long = H .long u (omega arith);
       within = n;
-      bytes = λ i k. of-span (omega arith) u l m refl }
+      bytes = λ i k. of-span (omega arith) u l m refl;
+    }

@@ -1,0 +1,1 @@
+-- Nothing of its own: the promise cites `paper` and the maps of `record`.
