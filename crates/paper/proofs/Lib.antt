@@ -28,4 +28,5 @@ pub mod Walk
 pub mod Marks
 pub mod Planner
 pub mod Rows
+pub mod Orders
 pub mod Example
