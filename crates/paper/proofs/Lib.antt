@@ -29,4 +29,5 @@ pub mod Marks
 pub mod Planner
 pub mod Rows
 pub mod Orders
+pub mod PlanRows
 pub mod Example

@@ -87,7 +87,8 @@ check-rows = record {
   largest-address = refl;
   equal-addresses = refl;
   falling-addresses = refl;
-  rising-addresses = refl }
+  rising-addresses = refl;
+}
 
 -- ---- a state: each rule by itself, at its edge
 
@@ -139,7 +140,8 @@ state-rows = record {
   pair-t-at-b = refl;
   bad-and-no-room = refl;
   no-room = refl;
-  room = refl }
+  room = refl;
+}
 
 -- ---- the calls: "An apply checks diff, state, image, Outside, then 11 to 14", and so on
 
@@ -185,8 +187,8 @@ pub record Call-rows : Type 0 where
 
 pub call-rows : Call-rows
 unfolding number decide run read-through merge merge-heads compare plan-checks check-entries lag decide-on exact is-clean check read-head opens head-bytes head-of
-  check-head bad-head field little spelled check-records check-record address-of record-bytes read-state bad-record bad-state fits-kind state-of state-bytes
-  bad-image check-image names-outside
+    check-head bad-head field little spelled check-records check-record address-of record-bytes read-state bad-record bad-state fits-kind state-of state-bytes
+    bad-image check-image names-outside
 call-rows = record {
   diff-before-state = refl;
   state-before-image = refl;
@@ -216,4 +218,5 @@ call-rows = record {
   plan-state-before-gid = refl;
   plan-gid = refl;
   lag-state-before-gid = refl;
-  lag-gid = refl }
+  lag-gid = refl;
+}
