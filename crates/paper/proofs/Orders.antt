@@ -6,10 +6,10 @@ use lib.ListN.{length, getD, take, drop, replicate}
 use lib.IntN.{ℤ}
 use Rattle.paper.specs.Limits.{block-bytes, head-mark, block-mark}
 use Rattle.paper.specs.Number.{little, spelled, field, opens}
-use Rattle.paper.specs.Answer.{Said, number, output, CutOff, BadMark, BadHead, TooMany, BadOrder, Tail, BadState, BadImage, Outside, BadStart, Gap, Compared, Apart, NoRoom, ShelfFull, BadGid}
+use Rattle.paper.specs.Answer.{Said, number, output, CutOff, BadMark, BadHead, TooMany, BadOrder, Tail, BadState, BadImage, Outside, BadStart, Behind, Gap, Short, Compared, Apart, NoRoom, ShelfFull, BadGid}
 use Rattle.paper.specs.Image.{bad-image, check-image}
 use Rattle.paper.specs.Diff.{Head, log-head, compared-head, head-of, head-bytes, bad-head, check-head, address-of, content-of, record-bytes, check-record, check-records, read-head, check, seek, names-outside}
-use Rattle.paper.specs.State.{State, clean, pair, span, is-clean, fits-kind, bad-state, state-of, state-bytes, bad-record, read-state, write-state}
+use Rattle.paper.specs.State.{clean, pair, is-clean, fits-kind, bad-state, state-of, state-bytes, bad-record, read-state, write-state}
 use Rattle.paper.specs.Volume.{exact, decide-on, decide, run, read-through, lag}
 use Rattle.paper.specs.Merge.{merge-heads, merge}
 use Rattle.paper.specs.Compare.{compare}
@@ -160,6 +160,9 @@ pub record Call-rows : Type 0 where
   pub image-before-outside : Says (decide (one 1) seven (take 511 zeros)) BadImage
   pub outside-before-gap : Says (decide (one 1) (state-bytes (clean 4)) zeros) Outside
   pub inside-then-gap : Says (decide (one 0) (state-bytes (clean 4)) zeros) Gap
+  pub behind-before-gap : Says (decide-on (log-head 9 5) (clean 7)) Behind
+  pub gap-before-short : Says (decide-on (log-head 8 10) (pair 7 12)) Gap
+  pub short-before-exact : Says (decide-on (compared-head 7 9) (pair 7 12)) Short
   pub run-diff-before-image : Says (run [] [] 0 0) CutOff
   pub run-image-before-outside : Says (run (one 1) [] 0 0) BadImage
   pub run-outside-before-start : Says (run (one 1) zeros 2 0) Outside
@@ -195,6 +198,9 @@ call-rows = record {
   image-before-outside = refl;
   outside-before-gap = refl;
   inside-then-gap = refl;
+  behind-before-gap = refl;
+  gap-before-short = refl;
+  short-before-exact = refl;
   run-diff-before-image = refl;
   run-image-before-outside = refl;
   run-outside-before-start = refl;

@@ -41,6 +41,8 @@ pub record Lists : Type 0 where
   pub from-dirty : Plan-says shelf (state-bytes (settled 0 5)) 9 (answer (0 ∷ 2 ∷ 3 ∷ []))
   -- "The list is empty if the state is already clean at the target."
   pub from-clean-9 : Plan-says shelf (state-bytes (clean 9)) 9 (answer [])
+  -- at the target, but dirty beyond it
+  pub from-dirty-9 : Plan-says shelf (state-bytes (settled 9 12)) 9 (refuse NoChain)
   -- "Target 5 from clean 0: NoChain."
   pub to-5 : Plan-says shelf (state-bytes (clean 0)) 5 (refuse NoChain)
 
@@ -63,6 +65,18 @@ none-to-5 = no-step shelf 5 (clean 0) refl from-0
     from-0 (suc (suc (suc zero))) a = absurd (false≢true a)
     from-0 (suc (suc (suc (suc n)))) a = absurd (omega (arith, accepts-rises shelf (clean 0) (suc (suc (suc (suc n)))) a .below))
 
+-- nothing leads from dirty 9 to clean 9: no entry ends later
+none-from-dirty-9 : No-plan shelf (settled 9 12) 9
+unfolding at-target is-clean accepts accepted decide-on exact
+none-from-dirty-9 = no-step shelf 9 (settled 9 12) refl from-9
+  where
+    from-9 : (n : ℕ) → accepts shelf (settled 9 12) n ≡ true → No-plan shelf (next shelf (settled 9 12) n) 9
+    from-9 zero a = absurd (false≢true a)
+    from-9 (suc zero) a = absurd (false≢true a)
+    from-9 (suc (suc zero)) a = absurd (false≢true a)
+    from-9 (suc (suc (suc zero))) a = absurd (false≢true a)
+    from-9 (suc (suc (suc (suc n)))) a = absurd (omega (arith, accepts-rises shelf (settled 9 12) (suc (suc (suc (suc n)))) a .below))
+
 pub lists : Lists
 unfolding at-target is-clean lowest accepts accepted decide-on exact done-state while-state is-pair-while plan-checks check-entries check-head bad-head
     read-state bad-record bad-state fits-kind state-of state-bytes opens field little spelled
@@ -71,5 +85,6 @@ lists = record {
   from-clean-5 = listed refl (step (clean 5) 9 2 refl refl (step (clean 6) 9 3 refl refl (first-here shelf 9 (clean 9) refl)));
   from-dirty = listed refl (step (settled 0 5) 9 0 refl refl (step (settled 4 5) 9 2 refl refl (step (clean 6) 9 3 refl refl (first-here shelf 9 (clean 9) refl))));
   from-clean-9 = listed refl (first-here shelf 9 (clean 9) refl);
+  from-dirty-9 = no-chain refl none-from-dirty-9;
   to-5 = no-chain refl none-to-5;
 }
