@@ -10,7 +10,7 @@ use Rattle.paper.specs.Answer.{answer, refuse, Outside, Behind, Gap, Short, Not
 use Rattle.paper.specs.Image.{check-image}
 use Rattle.paper.specs.Diff.{Head, is-compared, check, names-outside}
 use Rattle.paper.specs.State.{State, read-state}
-use Rattle.paper.specs.Volume.{exact, decide-on, decide, lag}
+use Rattle.paper.specs.Volume.{exact, not-exact, while-state, done-state, decide-on, decide, lag}
 
 -- ---- rules 11 to 14
 
@@ -32,6 +32,12 @@ module _ (h : Head) (s : State) where
       pub exact-no : s .t ≤ h .q → is-compared h ≡ true → exact h s ≡ false → refuse NotExact ≡ decide-on h s
       unfolding decide-on
       exact-no long c x = rw (lt-leb (h .q) (s .b) ahead, le-ltb (s .b) (h .p) meets, le-ltb (h .q) (s .t) long, c, x)
+
+      -- where none refuses, w and z that are the further states are the answer
+      pub all-passed : {w z : State} → s .t ≤ h .q → not-exact h s ≡ false → w ≡ while-state h s → z ≡ done-state h s
+          → answer (record { while = w; done = z }) ≡ decide-on h s
+      unfolding decide-on
+      all-passed long x e f = rw (lt-leb (h .q) (s .b) ahead, le-ltb (s .b) (h .p) meets, le-ltb (h .q) (s .t) long, x, e, f)
 
 -- ---- the checks before them
 

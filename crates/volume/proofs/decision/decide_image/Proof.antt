@@ -21,18 +21,27 @@ names-outside-requires c κs = search needs
 returns : tie.Need-returns
 returns c =
     let at = c .before .before .before .before .before in
-    let pre = at .before .before .before .before .before .pre in
-    outside-no _ _ _ _ (pre .0) _ (pre .1) _ (sym (at .before .check-image .ensures) ∙ ap said-blocks (c .before .before .before .said2 .given .1))
+    let pre = at .before .before .before .before .pre in
+    outside-no _ _ _ _ (pre .0) _ (pre .1) _ (sym (at .check-image .ensures) ∙ ap said-blocks (c .before .before .before .said2 .given .1))
     (sym (c .before .names-outside .ensures) ∙ c .if1 .taken)
 
 decide-on-requires : tie.Need-decide-on-requires
 decide-on-requires c κs = search needs
 
 returns-2 : tie.Need-returns-2
-returns-2 c = ?
+returns-2 c =
+    let at = c .before .before .before in
+    let pre = at .before .before .before .before .pre in
+    image-no _ _ _ _ (pre .0) _ (pre .1) _ (sym (at .check-image .ensures) ∙ ap said-blocks (c .before .said .given .1))
 
 returns-3 : tie.Need-returns-3
-returns-3 c = ?
+returns-3 c =
+    let outside = c .before .before in
+    let at = outside .before .before .before .before in
+    let pre = at .before .before .before .before .pre in
+    c .decide-on .ensures
+    ∙ values-decide _ _ _ _ (pre .0) _ (pre .1) _ (sym (at .check-image .ensures) ∙ ap said-blocks (outside .before .before .said2 .given .1))
+    (sym (outside .names-outside .ensures) ∙ c .before .if1 .left)
 
 pub decide-image-spec : {M : Type 1} → statement M
 decide-image-spec =

@@ -1,7 +1,7 @@
 -- `decide_on` meets its contract: it makes the tests of rules 11 to 14 in their order, and where all are passed it gives the two further states.
 use mathlib.Core.Path.{sym, _∙_}
-use borrow.Author.Tests.{eq-eqb, ne-eqb, not-true, not-false}
-use Rattle.volume.proofs.Deciding.{behind-no, gap-no, short-no, exact-no}
+use borrow.Author.Tests.{eq-eqb, ne-eqb, not-true}
+use Rattle.volume.proofs.Deciding.{behind-no, gap-no, short-no, exact-no, all-passed}
 use borrow.Author.Needs.{needs}
 use Rattle.volume.proofs.decision.decide_on.Statement.{statement}
 use Rattle.volume.proofs.decision.decide_on.Tie as tie
@@ -34,7 +34,13 @@ done-state-requires : tie.Need-done-state-requires
 done-state-requires c κs = search needs
 
 returns-5 : tie.Need-returns-5
-returns-5 c = ?
+returns-5 c =
+    let arm = c .before .before .before .before in
+    let at = arm .before .before in
+    let to = at .before .before .before in
+    all-passed _ _ (to .before .before .before .if1 .left) (to .if2 .left) (at .if3 .left)
+    (rw (eq-eqb _ 1 (arm .if4 .taken), ← c .before .before .before .is-exact .ensures) (c .before .before .if5 .left))
+    (c .before .while-state .ensures) (c .done-state .ensures)
 
 while-state-requires-2 : tie.Need-while-state-requires-2
 while-state-requires-2 c κs = search needs
@@ -43,7 +49,12 @@ done-state-requires-2 : tie.Need-done-state-requires-2
 done-state-requires-2 c κs = search needs
 
 returns-6 : tie.Need-returns-6
-returns-6 c = ?
+returns-6 c =
+    let at = c .before .before .before .before in
+    let to = at .before .before .before in
+    all-passed _ _ (to .before .before .before .if1 .left) (to .if2 .left) (at .if3 .left)
+    (rw (ne-eqb _ 1 (c .before .before .if4 .left)))
+    (c .before .while-state2 .ensures) (c .done-state2 .ensures)
 
 pub decide-on-spec : {M : Type 1} → statement M
 decide-on-spec =

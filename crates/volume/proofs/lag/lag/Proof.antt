@@ -1,45 +1,48 @@
+-- `lag` meets its contract: a state that is read has its gids below 2^63, and a target that passes too, so that their difference is an i64.
+use mathlib.Core.Path.{sym, ap, _∙_}
 use borrow.Author.Needs.{needs}
+use Rattle.paper.proofs.Saved.{read-good}
+use Rattle.record.specs.States.{said-state}
+use Rattle.volume.proofs.Deciding.{lag-no, gid-no, lag-gids}
+use Rattle.volume.proofs.Differences.{gid-fits, read-fits, read-back}
 use Rattle.volume.proofs.lag.lag.Statement.{statement}
 use Rattle.volume.proofs.lag.lag.Tie as tie
-use Rattle.volume.proofs.lag.lag.Reads as reads
-use Rattle.volume.proofs.lag.lag.Lts as lts
-use Rattle.record.proofs.state.State.read.Reads as read-reads
 
--- src/lag.rt:20:9
 read-requires : tie.Need-read-requires
 read-requires c κs = search needs
 
--- src/lag.rt:22:23
 enum-known-said : tie.Need-enum-known-said
 enum-known-said c = search needs
 
--- src/lag.rt:23:26
 enum-known-said-2 : tie.Need-enum-known-said-2
 enum-known-said-2 c = search needs
 
--- src/lag.rt:25:17
 returns : tie.Need-returns
-returns c = ?
+returns c =
+    let at = c .before .before in
+    gid-no _ _ _ (sym (at .before .before .read .ensures) ∙ ap said-state (at .said2 .given .1)) (c .if1 .taken)
 
--- src/lag.rt:27:27
 cast-t9 : tie.Need-cast-t9
-cast-t9 c = ?
+cast-t9 c =
+    let at = c .before .before .before in
+    gid-fits (read-good _ (sym (at .before .before .read .ensures) ∙ ap said-state (at .said2 .given .1)) .b)
 
--- src/lag.rt:27:40
 cast-t10 : tie.Need-cast-t10
-cast-t10 c = ?
+cast-t10 c = gid-fits (c .before .if1 .left)
 
--- src/lag.rt:27:27
 sub-t11 : tie.Need-sub-t11
-sub-t11 c = ?
+sub-t11 c =
+    let at = c .before .before .before in
+    read-fits _ _ (read-good _ (sym (at .before .before .read .ensures) ∙ ap said-state (at .said2 .given .1)) .b) (c .before .if1 .left)
 
--- src/lag.rt:17:1
 returns-2 : tie.Need-returns-2
-returns-2 c = ?
+returns-2 c = lag-no _ _ _ (sym (c .before .before .before .read .ensures) ∙ ap said-state (c .before .said .given .1))
 
--- src/lag.rt:17:1
 returns-3 : tie.Need-returns-3
-returns-3 c = ?
+returns-3 c =
+    let at = c .before .before .before in
+    let reads = sym (at .before .before .read .ensures) ∙ ap said-state (at .said2 .given .1) in
+    rw (read-back _ _ (read-good _ reads .b) (c .before .if1 .left)) (lag-gids _ _ _ reads (c .before .if1 .left))
 
 pub lag-spec : {M : Type 1} → statement M
 lag-spec =
