@@ -1,8 +1,8 @@
 -- `decide` meets its contract: the diff is checked, and where it passes the checks that are left are those of `decide_state`.
 use mathlib.Core.Path.{sym, ap, _∙_}
+use borrow.Author.Needs.{needs}
 use Rattle.record.specs.Heads.{said-head}
 use Rattle.volume.proofs.Deciding.{diff-no}
-use borrow.Author.Needs.{needs}
 use Rattle.volume.proofs.decision.decide.Statement.{statement}
 use Rattle.volume.proofs.decision.decide.Tie as tie
 

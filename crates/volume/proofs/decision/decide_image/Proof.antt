@@ -1,8 +1,8 @@
 -- `decide_image` meets its contract: the image rule, then Outside, then the decision on the values, as `decide` has them.
 use mathlib.Core.Path.{sym, ap, _∙_}
+use borrow.Author.Needs.{needs}
 use Rattle.record.specs.Images.{said-blocks}
 use Rattle.volume.proofs.Deciding.{image-no, outside-no, values-decide}
-use borrow.Author.Needs.{needs}
 use Rattle.volume.proofs.decision.decide_image.Statement.{statement}
 use Rattle.volume.proofs.decision.decide_image.Tie as tie
 

@@ -1,8 +1,8 @@
 -- `decide_on` meets its contract: it makes the tests of rules 11 to 14 in their order, and where all are passed it gives the two further states.
 use mathlib.Core.Path.{sym, _∙_}
+use borrow.Author.Needs.{needs}
 use borrow.Author.Tests.{eq-eqb, ne-eqb, not-true}
 use Rattle.volume.proofs.Deciding.{behind-no, gap-no, short-no, exact-no, all-passed}
-use borrow.Author.Needs.{needs}
 use Rattle.volume.proofs.decision.decide_on.Statement.{statement}
 use Rattle.volume.proofs.decision.decide_on.Tie as tie
 

@@ -1,8 +1,8 @@
 -- `decide_state` meets its contract: the state is read, and where it passes the checks that are left are those of `decide_image`.
 use mathlib.Core.Path.{sym, ap, _∙_}
+use borrow.Author.Needs.{needs}
 use Rattle.record.specs.States.{said-state}
 use Rattle.volume.proofs.Deciding.{state-no}
-use borrow.Author.Needs.{needs}
 use Rattle.volume.proofs.decision.decide_state.Statement.{statement}
 use Rattle.volume.proofs.decision.decide_state.Tie as tie
 
