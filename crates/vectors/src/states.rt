@@ -83,19 +83,62 @@ pub fn kinds() {
 
 pub fn writing() {
     let mut out = [0u8; 29];
-    row(b"write clean 7 into 29 bytes", written(State::clean(7), &mut out));
+    row(
+        b"write clean 7 into 29 bytes",
+        written(State::clean(7), &mut out),
+    );
     row(b"read what was written", read(&out[0..28]));
     let mut exact = [0u8; 28];
-    row(b"write pair 7,9,9 into 28 bytes", written(State::pair(7, 9), &mut exact));
+    row(
+        b"write pair 7,9,9 into 28 bytes",
+        written(State::pair(7, 9), &mut exact),
+    );
     row(b"read what was written", read(&exact));
     let mut few = [0u8; 27];
-    row(b"write clean 7 into 27 bytes", written(State::clean(7), &mut few));
-    row(b"write settled 9,9,7 into 28 bytes", written(State::settled(9, 7), &mut exact));
-    row(b"write settled 9,9,7 into 27 bytes", written(State::settled(9, 7), &mut few));
-    row(b"write span 4,8,10 into 28 bytes", written(State { kind: Kind::Span, b: 4, t: 8, e: 10 }, &mut exact));
-    row(b"write span 8,8,10 into 28 bytes", written(State { kind: Kind::Span, b: 8, t: 8, e: 10 }, &mut exact));
-    row(b"write clean 2^63 into 28 bytes", written(State::clean(9_223_372_036_854_775_808), &mut exact));
-    row(b"write the largest clean state", written(State::clean(9_223_372_036_854_775_807), &mut exact));
+    row(
+        b"write clean 7 into 27 bytes",
+        written(State::clean(7), &mut few),
+    );
+    row(
+        b"write settled 9,9,7 into 28 bytes",
+        written(State::settled(9, 7), &mut exact),
+    );
+    row(
+        b"write settled 9,9,7 into 27 bytes",
+        written(State::settled(9, 7), &mut few),
+    );
+    row(
+        b"write span 4,8,10 into 28 bytes",
+        written(
+            State {
+                kind: Kind::Span,
+                b: 4,
+                t: 8,
+                e: 10,
+            },
+            &mut exact,
+        ),
+    );
+    row(
+        b"write span 8,8,10 into 28 bytes",
+        written(
+            State {
+                kind: Kind::Span,
+                b: 8,
+                t: 8,
+                e: 10,
+            },
+            &mut exact,
+        ),
+    );
+    row(
+        b"write clean 2^63 into 28 bytes",
+        written(State::clean(9_223_372_036_854_775_808), &mut exact),
+    );
+    row(
+        b"write the largest clean state",
+        written(State::clean(9_223_372_036_854_775_807), &mut exact),
+    );
     row(b"read what was written", read(&exact));
 }
 
