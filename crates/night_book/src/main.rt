@@ -1,0 +1,13 @@
+// 01's night book, and further rows beside it: each prints what was asked and what was answered. The expected answers in `stdout` are worked out from 01.
+mod decisions;
+mod make;
+mod print;
+mod volumes;
+
+fn main() {
+    decisions::rows();
+    decisions::lags();
+    volumes::applies();
+    volumes::runs();
+    volumes::views();
+}
