@@ -21,7 +21,7 @@ use Rattle.paper.proofs.Check.{Sound, sound}
 use Rattle.paper.proofs.Names.{seek-sound, Fits, sound-fits}
 
 -- the content of record i, by its place in the diff
-content-place : (d : List ℕ) (i : ℕ) → take 512 (drop (24 + 518 * i + 6) d) ≡ content-of (rest d i)
+pub content-place : (d : List ℕ) (i : ℕ) → take 512 (drop (24 + 518 * i + 6) d) ≡ content-of (rest d i)
 unfolding content-of
 content-place d i = ap (take 512) (sym (drop-drop 6 (24 + 518 * i) d))
 
