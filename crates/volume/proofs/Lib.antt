@@ -2,4 +2,5 @@
 pub mod Deciding
 pub mod Differences
 pub mod Writing
+pub mod Viewing
 pub mod One

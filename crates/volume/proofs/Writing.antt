@@ -4,7 +4,6 @@ use Prim.Native.Nat.{ℕ, suc, _+_, _-_, _*_, _/_, _%_, _≤_, _<_}
 use mathlib.Core.Path.{_≡_, refl, sym, ap, _∙_}
 use mathlib.Core.Option.{Option, none, some}
 use mathlib.Core.List.{List, _++_}
-use mathlib.Core.Bool.{false}
 use native.Mathlib.Numerals.{add-one}
 use native.Mathlib.Decide.{ℕ-discrete, decLe}
 use native.Mathlib.Omega.{arith}
@@ -12,12 +11,12 @@ use lib.ListN.{length, getD, take, drop, length-append, List·getD-append}
 use lib.Seq.{getD-append-add, getD-take, getD-drop, length-take-le}
 use borrow.Rule.Slice.PartMut.{putMid}
 use Rattle.paper.specs.Image.{Map, byte-after, overlay}
-use Rattle.paper.specs.Diff.{Head, rest, address-of, content-of, named-by, names-outside, seek}
+use Rattle.paper.specs.Diff.{Head, rest, address-of, content-of, seek, named-by}
 use Rattle.paper.specs.Merge.{second-else-first, merged}
 use Rattle.paper.proofs.Images.{overlay-same}
 use Rattle.paper.proofs.Overlay.{is-overlay, overlay-overlay}
 use Rattle.paper.proofs.Check.{Sound, sound}
-use Rattle.paper.proofs.Names.{Sought, named-by-none, named-by-here, named-by-later, content-length, outside-means}
+use Rattle.paper.proofs.Names.{named-by-none, named-by-here, named-by-later, content-length, outside-means}
 use Rattle.paper.proofs.Views.{content-place}
 use Rattle.number.specs.Put.{put}
 use Rattle.number.proofs.Puts.{put-length}
