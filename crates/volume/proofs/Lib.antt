@@ -2,5 +2,6 @@
 pub mod Deciding
 pub mod Differences
 pub mod Writing
+pub mod Applying
 pub mod Viewing
 pub mod One
