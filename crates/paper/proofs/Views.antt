@@ -9,6 +9,7 @@ use lib.Dec.{leb}
 use lib.ListN.{length, take, drop}
 use lib.Seq.{drop-drop}
 use borrow.Author.Tests.{leb-false}
+use Rattle.paper.specs.Limits.{block-bytes}
 use Rattle.paper.specs.Answer.{Said, answer, guard, _then_, Outside}
 use Rattle.paper.specs.Image.{check-image, block, overlay}
 use Rattle.paper.specs.Diff.{Head, rest, content-of, check, seek, named-by, named, names-outside}
@@ -21,20 +22,33 @@ use Rattle.paper.proofs.Check.{Sound, sound}
 use Rattle.paper.proofs.Names.{seek-sound, Fits, sound-fits}
 
 -- the content of record i, by its place in the diff
-content-place : (d : List ℕ) (i : ℕ) → take 512 (drop (24 + 518 * i + 6) d) ≡ content-of (rest d i)
+pub content-place : (d : List ℕ) (i : ℕ) → take 512 (drop (24 + 518 * i + 6) d) ≡ content-of (rest d i)
 unfolding content-of
 content-place d i = ap (take 512) (sym (drop-drop 6 (24 + 518 * i) d))
 
--- "A read-through shows block a as it would stand after the apply"
-pub read-through-shows : {v : View} (d img : List ℕ) (a : ℕ) → read-through d img a ≡ answer v → shown d img v ≡ block (overlay img (named d)) a
-unfolding read-through shown named named-by block
-read-through-shows {v} d img a e =
+-- A read-through that answers: the diff is sound, block a lies in the image, and the view is that of the record that names it, or of the image.
+pub record Reads-through (d img : List ℕ) (a : ℕ) (v : View) : Type 0 where
+  pub head : Head
+  pub sound : Sound d head
+  pub inside : block-bytes * a + block-bytes ≤ length img
+  pub view : v ≡ view-of a (seek d a 0 (head .n))
+
+pub reads-through : {v : View} (d img : List ℕ) (a : ℕ) → read-through d img a ≡ answer v → Reads-through d img a v
+unfolding read-through
+reads-through d img a e =
     let c₁ = then-answer (check d) _ e in
     let c₂ = then-answer (check-image img) _ (c₁ .onward) in
     let c₃ = guard-answer (names-outside d 0 (c₁ .first .n) (c₂ .first) || leb (c₂ .first) a) Outside _ (c₂ .onward) in
     let inside : a < c₂ .first = leb-false _ _ (or-false-right (names-outside d 0 (c₁ .first .n) (c₂ .first)) _ (c₃ .clear)) in
     let m = image-blocks img (c₂ .answered) in
-    ap (shown d img) (sym (answer-injective (c₃ .onward))) ∙ go (c₁ .first) (sound (c₁ .answered)) (omega arith) (seek d a 0 (c₁ .first .n)) refl
+    record { head = c₁ .first; sound = sound (c₁ .answered); inside = omega arith; view = sym (answer-injective (c₃ .onward)) }
+
+-- "A read-through shows block a as it would stand after the apply"
+pub read-through-shows : {v : View} (d img : List ℕ) (a : ℕ) → read-through d img a ≡ answer v → shown d img v ≡ block (overlay img (named d)) a
+unfolding shown named named-by block
+read-through-shows {v} d img a e =
+    let r = reads-through d img a e in
+    ap (shown d img) (r .view) ∙ go (r .head) (r .sound) (r .inside) (seek d a 0 (r .head .n)) refl
   where
     go : (h : Head) → Sound d h → 512 * a + 512 ≤ length img → (o : Option ℕ) → seek d a 0 (h .n) ≡ o → shown d img (view-of a (seek d a 0 (h .n))) ≡ block (overlay img (named d)) a
     go h s l none n = rw n (sym (unnamed-stays img (named d) a (rw (← s .head, n))))
