@@ -9,5 +9,7 @@ fn main() {
     decisions::lags();
     volumes::applies();
     volumes::runs();
+    volumes::runs_at_the_end();
+    volumes::run_outside();
     volumes::views();
 }

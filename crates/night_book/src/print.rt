@@ -11,16 +11,12 @@ pub fn number(n: u64) {
     io::print_decimal(STDOUT_FILENO, n);
 }
 
-pub fn end() {
-    text(b"\n");
+pub fn byte(b: u8) {
+    number(b as u64);
 }
 
-// A row with one number.
-pub fn row(name: &[u8], n: u64) {
-    text(name);
-    text(b": ");
-    number(n);
-    end();
+pub fn end() {
+    text(b"\n");
 }
 
 // Three gids.

@@ -2,7 +2,6 @@
 use crate::make;
 use crate::print;
 use record::state::State;
-use volume::decision::Done;
 use volume::doing;
 use volume::doing::Applied;
 use volume::doing::Ran;
@@ -11,11 +10,11 @@ use volume::view;
 // The first byte of each block.
 fn firsts(img: &[u8; 1536]) {
     print::text(b" blocks ");
-    print::number(img[0] as u64);
+    print::byte(img[0]);
     print::text(b",");
-    print::number(img[512] as u64);
+    print::byte(img[512]);
     print::text(b",");
-    print::number(img[1535] as u64);
+    print::byte(img[1535]);
     print::end();
 }
 
@@ -37,10 +36,26 @@ fn applied(name: &[u8], d: &[u8], s: State) {
 }
 
 pub fn applies() {
-    applied(b"apply {0: 7, 2: 9}", &make::two(5, 9, 0, 7, 2, 9), State::clean(7));
-    applied(b"apply {0: 7, 3: 9}, one outside", &make::two(5, 9, 0, 7, 3, 9), State::clean(7));
-    applied(b"apply {1: 7} to a dirty volume", &make::one(0, 4, 8, 1, 7), State::settled(4, 10));
-    applied(b"apply compared {1: 7} to a dirty volume", &make::one(1, 4, 8, 1, 7), State::settled(4, 10));
+    applied(
+        b"apply {0: 7, 2: 9}",
+        &make::two(5, 9, 0, 7, 2, 9),
+        State::clean(7),
+    );
+    applied(
+        b"apply {0: 7, 3: 9}, one outside",
+        &make::two(5, 9, 0, 7, 3, 9),
+        State::clean(7),
+    );
+    applied(
+        b"apply {1: 7} to a dirty volume",
+        &make::one(0, 4, 8, 1, 7),
+        State::settled(4, 10),
+    );
+    applied(
+        b"apply compared {1: 7} to a dirty volume",
+        &make::one(1, 4, 8, 1, 7),
+        State::settled(4, 10),
+    );
     applied(b"apply nothing", &make::head(0, 5, 9), State::clean(7));
     applied(b"apply a gap", &make::one(0, 8, 9, 1, 7), State::clean(7));
 }
@@ -69,11 +84,33 @@ pub fn runs() {
     ran(b"run 1 1", &d, 1, 1);
     ran(b"run 0 2", &d, 0, 2);
     ran(b"run 0 0", &d, 0, 0);
+}
+
+pub fn runs_at_the_end() {
+    let d = make::two(5, 9, 0, 7, 2, 9);
     ran(b"run 2 5", &d, 2, 5);
     ran(b"run 3 0", &d, 3, 0);
-    ran(b"run 1 and all that can be asked", &d, 1, 18_446_744_073_709_551_615);
-    ran(b"run from the largest number", &d, 18_446_744_073_709_551_615, 1);
-    ran(b"run {0, 3}, one outside", &make::two(5, 9, 0, 7, 3, 9), 0, 1);
+    ran(
+        b"run 1 and all that can be asked",
+        &d,
+        1,
+        18_446_744_073_709_551_615,
+    );
+    ran(
+        b"run from the largest number",
+        &d,
+        18_446_744_073_709_551_615,
+        1,
+    );
+}
+
+pub fn run_outside() {
+    ran(
+        b"run {0, 3}, one outside",
+        &make::two(5, 9, 0, 7, 3, 9),
+        0,
+        1,
+    );
 }
 
 // Reads block a through d, over an image of ones.
@@ -88,7 +125,7 @@ fn seen(name: &[u8], d: &[u8], a: usize) {
     print::number(v.len() as u64);
     if 0 < v.len() {
         print::text(b" first ");
-        print::number(v[0] as u64);
+        print::byte(v[0]);
     }
     print::end();
 }
@@ -99,6 +136,10 @@ pub fn views() {
     seen(b"block 1 through {0: 7, 2: 9}", &d, 1);
     seen(b"block 2 through {0: 7, 2: 9}", &d, 2);
     seen(b"block 3 through {0: 7, 2: 9}", &d, 3);
-    seen(b"block 0 through {0: 7, 3: 9}", &make::two(5, 9, 0, 7, 3, 9), 0);
+    seen(
+        b"block 0 through {0: 7, 3: 9}",
+        &make::two(5, 9, 0, 7, 3, 9),
+        0,
+    );
     seen(b"block 1 through a diff cut short", &d[0..1059], 1);
 }
