@@ -20,7 +20,7 @@ unfolding put
 put-4 s k a b c d h = simp towards-suc (simp towards-suc at (sets-eq (a ∷ b ∷ c ∷ d ∷ []) s k h))
 
 -- one put after another
-pub put-put : (k : ℕ) (x y old : List ℕ) → k + length x + length y ≤ length old → put (k + length x) y (put k x old) ≡ put k (x ++ y) old
+pub put-put : (k : ℕ) (x y old : List ℕ) → k ≤ length old → put (k + length x) y (put k x old) ≡ put k (x ++ y) old
 unfolding put
 put-put k x y old h =
     let front : List ℕ = take k old ++ x in
