@@ -1,0 +1,68 @@
+-- The blocks that differ are marked and counted first, so the size is known before anything is written; with room, the head and the records behind it are the diff.
+use native.Mathlib.Omega.{arith}
+use borrow.Author.Needs.{needs}
+use Rattle.compare.proofs.Answers.{Sized, sized, marks-room, marked-count, few-marked, refused, no-room, writes}
+use Rattle.compare.proofs.compare_sound.Statement.{statement}
+use Rattle.compare.proofs.compare_sound.Tie as tie
+
+slice-aggregate-mark : tie.Need-slice-aggregate-mark
+slice-aggregate-mark c = search needs
+
+mark-requires : tie.Need-mark-requires
+mark-requires c κs = let s = sized (c .before .before .before .before .pre) in (s .first, s .second, marks-room _ (s .few))
+
+mul-size : tie.Need-mul-size
+mul-size c = omega (arith, few-marked _ _ _ _ _ (sized (c .before .before .before .before .before .before .pre)) (c .before .mark .ensures))
+
+add-size : tie.Need-add-size
+add-size c = omega (arith, few-marked _ _ _ _ _ (sized (c .before .before .before .before .before .before .pre)) (c .before .mark .ensures))
+
+returns : tie.Need-returns
+returns c =
+    let m = c .before .before .mark in
+    let at = c .before .before .before .before .before .before .before in
+    refused (at .args .out .now) (no-room _ _ _ _ _ (sized (at .pre)) (m .ensures) _ _ (at .pre) _ (c .if1 .taken))
+
+cast-t16 : tie.Need-cast-t16
+cast-t16 c = omega (arith, few-marked _ _ _ _ _ (sized (c .before .before .before .before .before .before .before .pre)) (c .before .before .mark .ensures))
+
+write-requires : tie.Need-write-requires
+write-requires c κs = search needs
+
+slice-aggregate-write-marked : tie.Need-slice-aggregate-write-marked
+slice-aggregate-write-marked c = search needs
+
+write-marked-requires : tie.Need-write-marked-requires
+write-marked-requires c κs =
+    let m = c .before .before .before .before .before .before .before .before .mark in
+    let s = sized (c .before .before .before .before .before .before .before .before .before .before .before .before .before .pre) in
+    let count = marked-count _ _ _ _ _ s (m .ensures) in (
+      (s .second, s .few, omega (arith, marks-room _ (s .few), m .kept .1 .1 .1 .0)),
+      omega (arith, count, c .before .before .before .before .before .before .if1 .left, c .before .before .before .before .write .kept .1 .0),
+    )
+
+same-length : tie.Need-same-length
+same-length c = search needs
+
+returns-2 : tie.Need-returns-2
+returns-2 c =
+    let m = c .before .before .before .before .before .before .before .before .before .before .before .mark in
+    let at = c .before .before .before .before .before .before .before .before .before .before .before .before .before .before .before .before in
+    writes _ _ _ _ _ (sized (at .pre)) (m .ensures) _ _ (at .pre) (at .args .out .now) (c .before .before .before .before .before .before .before .write .last .1 .0) (c .before .before .write-marked .last .1 .1 .1 .0)
+    (c .before .before .before .before .before .before .before .before .before .if1 .left) (c .before .before .before .before .before .before .before .write .ensures) (c .before .before .write-marked .ensures)
+
+pub compare-sound-spec : {M : Type 1} → statement M
+compare-sound-spec =
+    tie.close
+    (tie.spec
+    slice-aggregate-mark
+    mark-requires
+    mul-size
+    add-size
+    returns
+    cast-t16
+    write-requires
+    slice-aggregate-write-marked
+    write-marked-requires
+    same-length
+    returns-2)
