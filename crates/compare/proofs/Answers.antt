@@ -22,7 +22,7 @@ use Rattle.paper.proofs.Comparing.{alike, unlike, compared-block, differing-fit
 use Rattle.number.specs.Put.{put}
 use Rattle.record.proofs.Stores.{put-next}
 use Rattle.record.proofs.StateLaws.{put-first}
-use Rattle.compare.specs.Marks.{Comparable, marked, Marks}
+use Rattle.compare.specs.Marks.{compared, Comparable, marked, Marks}
 
 -- ---- addresses that are not named
 
@@ -95,10 +95,6 @@ module _ (old new : List ℕ) (p q room : ℕ) where
   gids-bad e f long bad = rw (e, f, eq-eqb (length old) (length new) long, bad)
 
 -- ---- where the checks 8 and 3 are passed
-
--- a compared head with its count
-abbrev pub compared : ℕ → ℕ → ℕ → Head
-compared p q n = record { kind = 1; spare = 0; p = p; q = q; n = n }
 
 -- Images that are compared: as many whole blocks in both.
 pub record Sized (old new : List ℕ) (blocks : ℕ) : Type 0 where

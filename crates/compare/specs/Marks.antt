@@ -6,8 +6,12 @@ use mathlib.Core.List.{List}
 use mathlib.Core.Bool.{Bool, false, cond}
 use lib.ListN.{length, getD}
 use Rattle.paper.specs.Image.{Map, bad-image, block}
-use Rattle.paper.specs.Diff.{compared-head, bad-head, count-of}
+use Rattle.paper.specs.Diff.{Head, compared-head, bad-head, count-of}
 use Rattle.paper.specs.Compare.{differing}
+
+-- the head of a compared diff of n blocks
+abbrev pub compared : ℕ → ℕ → ℕ → Head
+compared p q n = record { kind = 1; spare = 0; p = p; q = q; n = n }
 
 -- The checks 8 and 3, passed.
 pub record Comparable (old new : List ℕ) (p q : ℕ) : Type 0 where

@@ -13,8 +13,9 @@ ghost use Rattle.paper.specs.Answer.{comes-back, over};
 ghost use Rattle.paper.specs.Diff.{records-of, count-of};
 ghost use Rattle.paper.specs.Compare.{compare};
 ghost use Rattle.number.specs.Put.{put};
+ghost use Rattle.record.specs.Heads.{head};
 ghost use Rattle.record.specs.States.{said-length};
-ghost use Rattle.compare.specs.Marks.{Comparable, marked, Marks};
+ghost use Rattle.compare.specs.Marks.{compared, Comparable, marked, Marks};
 
 // "A comparison checks 8, then 3 for its gids, then 17." The compared diff goes to `out`, and its length is answered.
 pub fn compare(old: &[u8], new: &[u8], p: u64, q: u64, out: &mut [u8]) -> Written
@@ -32,18 +33,24 @@ pub fn compare(old: &[u8], new: &[u8], p: u64, q: u64, out: &mut [u8]) -> Writte
     if old.len() != new.len() {
         return Written::No(Refusal::BadImage);
     }
-    let head = Head {
-        kind: 1,
-        spare: 0,
-        p,
-        q,
-        n: 0,
-    };
-    let gids = head.check();
+    let gids = compared(p, q, 0).check();
     if let HeadSaid::No(r) = gids {
         return Written::No(r);
     }
     compare_sound(old, new, p, q, out)
+}
+
+// The head of a compared diff of n blocks from p to q.
+fn compared(p: u64, q: u64, n: u32) -> Head
+    ensures { λ r. ⌜ head r ≡ compared p q n ⌝ }
+{
+    Head {
+        kind: 1,
+        spare: 0,
+        p,
+        q,
+        n,
+    }
 }
 
 // The comparison of two whole images of one length, with good gids. Nothing is written before it is known to have room.
@@ -59,14 +66,7 @@ fn compare_sound(old: &[u8], new: &[u8], p: u64, q: u64, out: &mut [u8]) -> Writ
     if out.len() < size {
         return Written::No(Refusal::NoRoom);
     }
-    let head = Head {
-        kind: 1,
-        spare: 0,
-        p,
-        q,
-        n: count as u32,
-    };
-    head.write(out);
+    compared(p, q, count as u32).write(out);
     write_marked(new, blocks, &marks, out);
     Written::Bytes(size)
 }

@@ -1,7 +1,10 @@
 -- The blocks that differ are marked and counted first, so the size is known before anything is written; with room, the head and the records behind it are the diff.
+use mathlib.Core.Path.{ap, _∙_}
 use native.Mathlib.Omega.{arith}
 use borrow.Author.Needs.{needs}
-use Rattle.compare.proofs.Answers.{Sized, sized, marks-room, marked-count, few-marked, refused, no-room, writes}
+use Rattle.paper.specs.Diff.{Head, head-bytes}
+use Rattle.number.specs.Put.{put}
+use Rattle.compare.proofs.Answers.{sized, marks-room, marked-count, few-marked, refused, no-room, writes}
 use Rattle.compare.proofs.compare_sound.Statement.{statement}
 use Rattle.compare.proofs.compare_sound.Tie as tie
 
@@ -23,8 +26,11 @@ returns c =
     let at = c .before .before .before .before .before .before .before in
     refused (at .args .out .now) (no-room _ _ _ _ _ (sized (at .pre)) (m .ensures) _ _ (at .pre) _ (c .if1 .taken))
 
-cast-t16 : tie.Need-cast-t16
-cast-t16 c = omega (arith, few-marked _ _ _ _ _ (sized (c .before .before .before .before .before .before .before .pre)) (c .before .before .mark .ensures))
+cast-compared : tie.Need-cast-compared
+cast-compared c = omega (arith, few-marked _ _ _ _ _ (sized (c .before .before .before .before .before .before .before .pre)) (c .before .before .mark .ensures))
+
+compared-requires : tie.Need-compared-requires
+compared-requires c κs = search needs
 
 write-requires : tie.Need-write-requires
 write-requires c κs = search needs
@@ -34,11 +40,12 @@ slice-aggregate-write-marked c = search needs
 
 write-marked-requires : tie.Need-write-marked-requires
 write-marked-requires c κs =
-    let m = c .before .before .before .before .before .before .before .before .mark in
-    let s = sized (c .before .before .before .before .before .before .before .before .before .before .before .before .before .pre) in
+    let at = c .before .before .before .before .before .before .before in
+    let m = at .before .before .mark in
+    let s = sized (at .before .before .before .before .before .before .before .pre) in
     let count = marked-count _ _ _ _ _ s (m .ensures) in (
       (s .second, s .few, omega (arith, marks-room _ (s .few), m .kept .1 .1 .1 .0)),
-      omega (arith, count, c .before .before .before .before .before .before .if1 .left, c .before .before .before .before .write .kept .1 .0),
+      omega (arith, count, at .if1 .left, c .before .before .before .before .write .kept .1 .0),
     )
 
 same-length : tie.Need-same-length
@@ -46,10 +53,13 @@ same-length c = search needs
 
 returns-2 : tie.Need-returns-2
 returns-2 c =
-    let m = c .before .before .before .before .before .before .before .before .before .before .before .mark in
-    let at = c .before .before .before .before .before .before .before .before .before .before .before .before .before .before .before .before in
-    writes _ _ _ _ _ (sized (at .pre)) (m .ensures) _ _ (at .pre) (at .args .out .now) (c .before .before .before .before .before .before .before .write .last .1 .0) (c .before .before .write-marked .last .1 .1 .1 .0)
-    (c .before .before .before .before .before .before .before .before .before .if1 .left) (c .before .before .before .before .before .before .before .write .ensures) (c .before .before .write-marked .ensures)
+    let at = c .before .before .before .before .before .before .before .before .before .before in
+    let m = at .before .before .mark in
+    let start = at .before .before .before .before .before .before .before in
+    let write = c .before .before .before .before .before .before .before .write in
+    let marked = c .before .before .write-marked in
+    let head = write .ensures ∙ ap (λ (h : Head). put 0 (head-bytes h) (start .args .out .now)) (c .before .before .before .before .before .before .before .before .before .compared .ensures) in
+    writes _ _ _ _ _ (sized (start .pre)) (m .ensures) _ _ (start .pre) (start .args .out .now) (write .last .1 .0) (marked .last .1 .1 .1 .0) (at .if1 .left) head (marked .ensures)
 
 pub compare-sound-spec : {M : Type 1} → statement M
 compare-sound-spec =
@@ -60,7 +70,8 @@ compare-sound-spec =
     mul-size
     add-size
     returns
-    cast-t16
+    cast-compared
+    compared-requires
     write-requires
     slice-aggregate-write-marked
     write-marked-requires
