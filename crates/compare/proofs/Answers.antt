@@ -1,78 +1,37 @@
 -- What a comparison answers, case by case: 8 for an image, 3 for the gids, 17 for the room; else its diff is written and its length answered.
-use Prim.Native.Nat.{ℕ, zero, suc, _+_, _-_, _*_, _/_, _≤_, _<_}
-use mathlib.Core.Path.{_≡_, refl, sym, ap, _∙_}
-use mathlib.Core.Option.{none, some}
-use mathlib.Core.List.{List, [], _++_}
-use mathlib.Core.Bool.{Bool, true, false, not, _||_, or-true}
+use Prim.Native.Nat.{ℕ, _+_, _-_, _*_, _/_, _≤_, _<_}
+use mathlib.Core.Path.{_≡_, sym, ap, _∙_}
+use mathlib.Core.List.{List, _++_}
+use mathlib.Core.Bool.{Bool, true, false, or-true}
 use native.Mathlib.Omega.{arith}
-use lib.Dec.{eqb}
 use lib.ListN.{length, length-append, replicate, length-replicate}
 use borrow.Author.Tests.{eq-eqb, ne-eqb, lt-ltb}
 use Rattle.paper.specs.Limits.{block-bytes, max-blocks, head-size, record-size}
-use Rattle.paper.specs.Answer.{Said, answer, refuse, guard, comes-back, over, output, Wrote, BadImage, BadHead, NoRoom}
-use Rattle.paper.specs.Image.{Map, bad-image, check-image, block}
+use Rattle.paper.specs.Answer.{answer, refuse, comes-back, over, output, BadImage, BadHead, NoRoom}
+use Rattle.paper.specs.Image.{bad-image}
 use Rattle.paper.specs.Diff.{Head, head-bytes, compared-head, bad-head, check-head, records-of, count-of, counted, written}
 use Rattle.paper.specs.Compare.{differing, compare}
-use Rattle.paper.proofs.Answers.{guard-answer, wrote, refuse-not-answer}
-use Rattle.paper.proofs.Images.{Whole-image, whole-image, block-beyond}
+use Rattle.paper.proofs.Answers.{guard-answer, guard-refuse}
+use Rattle.paper.proofs.Images.{whole-image}
 use Rattle.paper.proofs.Parts.{head-length}
-use Rattle.paper.proofs.Names.{Fits}
-use Rattle.paper.proofs.Meaning.{Next, next, records-zero, count-zero, count-le, records-same, count-same, records-length, written-length}
-use Rattle.paper.proofs.Comparing.{alike, unlike, compared-block, differing-fits, compares}
+use Rattle.paper.proofs.Meaning.{count-le, records-same, count-same, records-beyond, count-beyond, written-length}
+use Rattle.paper.proofs.Comparing.{alike-beyond, differing-fits, compares}
 use Rattle.number.specs.Put.{put}
 use Rattle.record.proofs.Stores.{put-next}
 use Rattle.record.proofs.StateLaws.{put-first}
 use Rattle.compare.specs.Marks.{compared, Comparable, marked, Marks}
 
--- ---- addresses that are not named
+-- ---- the checks 8 and 3
 
--- more addresses, none of them named, have no more records
-pub records-more : (f : Map) (a n k : ℕ) → ((b : ℕ) → a + n ≤ b → f b ≡ none) → records-of f a (n + k) ≡ records-of f a n
-unfolding records-of
-records-more f a zero zero rest = refl
-records-more f a zero (suc k) rest =
-    let e : 0 + suc k ≡ suc (0 + k) = omega arith in
-    rw (e, rest a (omega arith)) (records-more f (suc a) 0 k λ b l. rest b (omega arith))
-records-more f a (suc n) k rest = let e : suc n + k ≡ suc (n + k) = omega arith in rw (e, records-more f (suc a) n k λ b l. rest b (omega arith))
-
--- and count no more
-pub count-more : (f : Map) (a n k : ℕ) → ((b : ℕ) → a + n ≤ b → f b ≡ none) → count-of f a (n + k) ≡ count-of f a n
-unfolding count-of
-count-more f a zero zero rest = refl
-count-more f a zero (suc k) rest =
-    let e : 0 + suc k ≡ suc (0 + k) = omega arith in
-    rw (e, rest a (omega arith)) (omega (arith, count-more f (suc a) 0 k λ b l. rest b (omega arith)))
-count-more f a (suc n) k rest = let e : suc n + k ≡ suc (n + k) = omega arith in rw (e, count-more f (suc a) n k λ b l. rest b (omega arith))
-
--- ---- refusals
-
--- a check before an answer that refuses: its fault is there, and the number is its own
-pub guard-refuse : {A : Type 0} {j : ℕ} (fault : Bool) (k : ℕ) (a : A) → guard fault k (answer a) ≡ refuse j → (fault ≡ true) × (k ≡ j)
-guard-refuse true k a e = (refl, cc)
-guard-refuse false k a e = absurd (refuse-not-answer (sym e))
-
-pub image-no : {k : ℕ} (img : List ℕ) → check-image img ≡ refuse k → (bad-image img ≡ true) × (BadImage ≡ k)
-unfolding check-image
-image-no img e = guard-refuse (bad-image img) BadImage _ e
-
-pub image-yes : {m : ℕ} (img : List ℕ) → check-image img ≡ answer m → bad-image img ≡ false
-unfolding check-image
-image-yes img e = guard-answer (bad-image img) BadImage _ e .clear
-
+-- gids are refused where a compared head with them is bad, and only with BadHead
 pub gids-no : {k : ℕ} (p q : ℕ) → check-head (compared-head p q) ≡ refuse k → (bad-head (compared-head p q) ≡ true) × (BadHead ≡ k)
 unfolding check-head
 gids-no p q e = guard-refuse (bad-head (compared-head p q)) BadHead _ e
 
+-- and pass where it is not
 pub gids-yes : {h : Head} (p q : ℕ) → check-head (compared-head p q) ≡ answer h → bad-head (compared-head p q) ≡ false
 unfolding check-head
 gids-yes p q e = guard-answer (bad-head (compared-head p q)) BadHead _ e .clear
-
--- ---- the answers
-
--- a refusal comes back alone, and the lent slice stays
-pub refused : {A : Type 0} {r : Said (Wrote A)} {k : ℕ} (s : List ℕ) → r ≡ refuse k → (refuse k ≡ comes-back r) × (s ≡ over s r)
-unfolding comes-back over
-refused s e = rw e (refl, refl)
 
 module _ (old new : List ℕ) (p q room : ℕ) where
   -- 8: the first image, the second, unequal lengths
@@ -108,20 +67,13 @@ sized {old} {new} c =
     let long = c .long in
     record { first = omega arith; second = omega arith; few = omega arith }
 
--- beyond the images nothing differs
-alike-beyond : (old new : List ℕ) (blocks b : ℕ) → Sized old new blocks → blocks ≤ b → differing old new b ≡ none
-alike-beyond old new blocks b s l = elim (compared-block old new b) [
-  | alike e n ↦ n
-  | unlike e n ↦ absurd (e (block-beyond old b (omega arith) ∙ sym (block-beyond new b (omega arith))))
-]
-
 module _ (old new : List ℕ) (blocks : ℕ) (marks : List Bool) (count : ℕ) (s : Sized old new blocks) (k : Marks old new blocks marks count) where
   -- the marks of the blocks are all that differs
   marked-records : records-of (marked marks new) 0 blocks ≡ records-of (differing old new) 0 max-blocks
   marked-records =
       let e : blocks + (max-blocks - blocks) ≡ max-blocks = omega arith in
       records-same (marked marks new) (differing old new) 0 blocks (λ b l h. k .each b (omega arith))
-      ∙ sym (records-more (differing old new) 0 blocks (max-blocks - blocks) λ b l. alike-beyond old new blocks b s (omega arith))
+      ∙ sym (records-beyond (differing old new) 0 blocks (max-blocks - blocks) λ b l. alike-beyond old new b (omega arith) (omega arith))
       ∙ ap (records-of (differing old new) 0) e
 
   pub marked-count : count-of (marked marks new) 0 blocks ≡ count
@@ -131,7 +83,7 @@ module _ (old new : List ℕ) (blocks : ℕ) (marks : List Bool) (count : ℕ) (
   all-count =
       let e : blocks + (max-blocks - blocks) ≡ max-blocks = omega arith in
       k .all
-      ∙ sym (count-more (differing old new) 0 blocks (max-blocks - blocks) λ b l. alike-beyond old new blocks b s (omega arith))
+      ∙ sym (count-beyond (differing old new) 0 blocks (max-blocks - blocks) λ b l. alike-beyond old new b (omega arith) (omega arith))
       ∙ ap (count-of (differing old new) 0) e
 
   -- no more blocks are marked than an image has

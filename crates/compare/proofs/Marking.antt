@@ -1,36 +1,19 @@
 -- The walk that marks: before block a every block is marked as it differs, and what is counted with what is left to count is all.
-use Prim.Native.Nat.{ℕ, suc, _+_, _-_, _*_, _≤_, _<_}
-use mathlib.Core.Path.{_≡_, refl, sym, ap, _∙_}
-use mathlib.Core.Option.{none, some}
-use mathlib.Core.List.{List, _++_}
+use Prim.Native.Nat.{ℕ, _+_, _-_, _*_, _≤_, _<_}
+use mathlib.Core.Path.{_≡_, refl, sym, _∙_}
+use mathlib.Core.List.{List}
 use mathlib.Core.Bool.{Bool, true, false, not}
-use native.Mathlib.Numerals.{add-one}
 use native.Mathlib.Nat.{sub-zero}
 use native.Mathlib.Decide.{ℕ-discrete}
 use native.Mathlib.Omega.{arith}
-use lib.ListN.{length, getD, take, drop, set, length-set}
+use lib.ListN.{length, take, drop, set, length-set}
 use lib.Seq.{getD-set-same, getD-set-other}
-use Rattle.paper.specs.Limits.{block-bytes}
-use Rattle.paper.specs.Image.{Map, block, same}
-use Rattle.paper.specs.Diff.{one-for, record-for, records-of, count-of}
+use Rattle.paper.specs.Image.{block, same}
+use Rattle.paper.specs.Diff.{one-for, count-of}
 use Rattle.paper.specs.Compare.{differing}
-use Rattle.paper.proofs.Meaning.{count-zero, count-le}
-use Rattle.record.proofs.Walk.{part-all}
+use Rattle.paper.proofs.Meaning.{count-left, count-zero, count-le}
+use Rattle.record.proofs.Walk.{part-block}
 use Rattle.compare.specs.Marks.{marked, Marks}
-
--- of n addresses, those from a on are a and those from a + 1 on
-pub count-left : (f : Map) (a n : ℕ) → a < n → count-of f a (n - a) ≡ one-for (f a) + count-of f (a + 1) (n - (a + 1))
-unfolding count-of
-count-left f a n l = let k : n - a ≡ suc (n - (a + 1)) = omega arith in rw (k, add-one)
-
-pub records-left : (f : Map) (a n : ℕ) → a < n → records-of f a (n - a) ≡ record-for a (f a) ++ records-of f (a + 1) (n - (a + 1))
-unfolding records-of
-records-left f a n l = let k : n - a ≡ suc (n - (a + 1)) = omega arith in rw (k, add-one)
-
--- the first block of the part from byte 512a on is block a
-pub block-part : (img : List ℕ) (a at : ℕ) → at ≡ block-bytes * a → take block-bytes (take (length img - at) (drop at img)) ≡ block img a
-unfolding block
-block-part img a at e = rw (part-all img at, e)
 
 -- The walk stands at block a, with `count` blocks counted.
 pub record Marking (old new : List ℕ) (blocks : ℕ) (start marks : List Bool) (count a : ℕ) : Type 0 where
@@ -78,7 +61,7 @@ module _ (old new : List ℕ) (blocks : ℕ) (start marks : List Bool) (count a 
     (l : a < blocks) (room : blocks ≤ length start)
     (e : r ≡ same (take 512 (take (length old - 512 * a) (drop (512 * a) old))) (take 512 (take (length new - 512 * a) (drop (512 * a) new)))) where
   blocks-same : r ≡ same (block old a) (block new a)
-  blocks-same = e ∙ rw (block-part old a (512 * a) refl, block-part new a (512 * a) refl)
+  blocks-same = e ∙ rw (part-block old a (512 * a) refl, part-block new a (512 * a) refl)
 
   pub mark-alike : r ≡ true → Marking old new blocks start (set marks a false) count (a + 1)
   unfolding differing

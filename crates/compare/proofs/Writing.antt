@@ -1,30 +1,25 @@
 -- The walk that writes: at block a, what `out` is to hold is what it holds with the records from a on put at the place reached.
 use Prim.Native.Nat.{ℕ, _+_, _-_, _*_, _≤_, _<_}
-use mathlib.Core.Path.{_≡_, refl, sym, ap, _∙_}
+use mathlib.Core.Path.{_≡_, refl, sym, _∙_}
 use mathlib.Core.Option.{none, some}
-use mathlib.Core.List.{List, [], _++_, append-nil}
+use mathlib.Core.List.{List, _++_}
 use mathlib.Core.Bool.{Bool, true, false}
-use native.Mathlib.Nat.{sub-zero, add-zero}
+use native.Mathlib.Nat.{sub-zero}
 use native.Mathlib.Omega.{arith}
-use lib.ListN.{length, getD, take, drop, take-append-drop}
+use lib.ListN.{length, getD, take, drop}
 use borrow.Rule.Slice.PartMut.{putMid}
 use Rattle.paper.specs.Limits.{block-bytes, record-size, head-size}
 use Rattle.paper.specs.Image.{block}
 use Rattle.paper.specs.Diff.{one-for, record-bytes, records-of, count-of}
 use Rattle.paper.proofs.Images.{block-whole}
 use Rattle.paper.proofs.Parts.{record-length}
-use Rattle.paper.proofs.Meaning.{records-zero}
+use Rattle.paper.proofs.Meaning.{count-left, records-left, records-zero}
 use Rattle.number.specs.Put.{put}
-use Rattle.number.proofs.Puts.{put-length, put-put}
+use Rattle.number.proofs.Puts.{put-length, put-none, put-put}
+use Rattle.record.proofs.Walk.{part-block}
 use Rattle.record.proofs.Stores.{put-part}
 use Rattle.record.proofs.StateLaws.{put-first}
 use Rattle.compare.specs.Marks.{marked}
-use Rattle.compare.proofs.Marking.{count-left, records-left, block-part}
-
--- no bytes change nothing
-put-none : (k : ℕ) (s : List ℕ) → put k [] s ≡ s
-unfolding put
-put-none k s = rw (append-nil, add-zero) (take-append-drop k s)
 
 -- The walk stands at block a, and the next record goes to byte `at`.
 pub record Writing (new : List ℕ) (blocks : ℕ) (marks : List Bool) (start out : List ℕ) (at a : ℕ) : Type 0 where
@@ -75,7 +70,7 @@ module _ (new : List ℕ) (blocks : ℕ) (marks : List Bool) (start out : List �
       let size : length x ≡ record-size = record-length a (block new a) (block-whole new a (omega arith)) in
       let room = write-room l e in
       let lent : y ≡ x ++ drop record-size (take (length out - at) (drop at out)) =
-      f ∙ put-first _ _ ∙ rw (block-part new a (512 * a) refl, size) in
+      f ∙ put-first _ _ ∙ rw (part-block new a (512 * a) refl, size) in
       let back : putMid at (length out - at) out y ≡ put at x out = put-part at record-size x y out size lent in
       let kept : length (put at x out) ≡ length out = put-length at x out (omega arith) in
       let more = put-put at x (records-of (marked marks new) (a + 1) (blocks - (a + 1))) out (omega arith) in

@@ -6,9 +6,11 @@ use borrow.Author.Needs.{needs}
 use Rattle.paper.specs.Answer.{refuse}
 use Rattle.paper.specs.Image.{bad-image}
 use Rattle.paper.specs.Diff.{compared-head, check-head}
+use Rattle.paper.proofs.Answers.{refused}
+use Rattle.paper.proofs.Images.{image-no, image-yes}
 use Rattle.record.specs.Images.{said-blocks}
 use Rattle.record.specs.Heads.{said-head}
-use Rattle.compare.proofs.Answers.{image-no, image-yes, gids-no, gids-yes, refused, first-bad, second-bad, unequal, gids-bad}
+use Rattle.compare.proofs.Answers.{gids-no, gids-yes, first-bad, second-bad, unequal, gids-bad}
 use Rattle.compare.proofs.compare.Statement.{statement}
 use Rattle.compare.proofs.compare.Tie as tie
 

@@ -3,8 +3,9 @@ use mathlib.Core.Path.{ap, _∙_}
 use native.Mathlib.Omega.{arith}
 use borrow.Author.Needs.{needs}
 use Rattle.paper.specs.Diff.{Head, head-bytes}
+use Rattle.paper.proofs.Answers.{refused}
 use Rattle.number.specs.Put.{put}
-use Rattle.compare.proofs.Answers.{sized, marks-room, marked-count, few-marked, refused, no-room, writes}
+use Rattle.compare.proofs.Answers.{sized, marks-room, marked-count, few-marked, no-room, writes}
 use Rattle.compare.proofs.compare_sound.Statement.{statement}
 use Rattle.compare.proofs.compare_sound.Tie as tie
 
