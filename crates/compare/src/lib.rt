@@ -2,6 +2,7 @@
 use record::block::Block;
 use record::head::Head;
 use record::head::HeadSaid;
+use record::head::MAX_BLOCKS;
 use record::image;
 use record::image::ImageSaid;
 use record::refusal::Refusal;
@@ -60,7 +61,7 @@ fn compare_sound(old: &[u8], new: &[u8], p: u64, q: u64, out: &mut [u8]) -> Writ
     ensures { λ _. ⌜ now (out .exit) ≡ over (now (out .entry)) (compare (now (old .entry)) (now (new .entry)) p q (length (now (out .entry)))) ⌝ }
 {
     let blocks = new.len() / Block::BYTES;
-    let mut marks = [false; 65536];
+    let mut marks = [false; MAX_BLOCKS as usize];
     let count = mark(old, new, blocks, &mut marks);
     let size = Head::SIZE + Block::SIZE * count;
     if out.len() < size {
