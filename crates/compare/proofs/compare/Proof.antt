@@ -21,8 +21,11 @@ first-passed c = image-yes _ (sym (c .before .before .check-image .ensures) ∙ 
 second-passed : (c : tie.After-enum-told2) → bad-image (c .before .before .before .before .before .before .before .before .before .args .new .now) ≡ false
 second-passed c = image-yes _ (sym (c .before .before .check-image2 .ensures) ∙ ap said-blocks (c .enum-told2 .given .1))
 
+abbrev start : tie.After-check → tie.Start
+start c = c .before .before .before .before .before .before .before .before .before .before .before .before
+
 -- what is said of the gids is said of a compared head
-gids : (c : tie.After-check) → said-head (c .check .result) ≡ check-head (compared-head (c .before .before .before .before .before .before .before .before .before .before .before .before .args .p) (c .before .before .before .before .before .before .before .before .before .before .before .before .args .q))
+gids : (c : tie.After-check) → said-head (c .check .result) ≡ check-head (compared-head (start c .args .p) (start c .args .q))
 gids c = c .check .ensures ∙ ap check-head (c .before .compared .ensures)
 
 check-image-requires : tie.Need-check-image-requires
@@ -67,8 +70,9 @@ enum-known-gids c = search needs
 
 returns-4 : tie.Need-returns-4
 returns-4 c =
+    let at = c .before .before .before .before .before in
     let (bad, number) = gids-no _ _ (sym (gids (c .before .before .before)) ∙ ap said-head (c .before .gids .given .1)) in
-    refused _ (gids-bad _ _ _ _ _ (first-passed (c .before .before .before .before .before .before .before .before .before)) (second-passed (c .before .before .before .before .before .before)) (c .before .before .before .before .before .if1 .left) bad ∙ ap refuse number)
+    refused _ (gids-bad _ _ _ _ _ (first-passed (at .before .before .before .before)) (second-passed (at .before)) (at .if1 .left) bad ∙ ap refuse number)
 
 enum-told-3 : tie.Need-enum-told-3
 enum-told-3 c = search needs
