@@ -1,1 +1,2 @@
--- Nothing of its own: the promise cites `paper` and the maps of `record`.
+-- What a comparison has checked, and what its marks stand for.
+pub mod Marks

@@ -1,10 +1,11 @@
 -- Bytes stored one after another are bytes put at a place.
 use Prim.Native.Nat.{ℕ, zero, suc, _+_, _/_, _%_, _≤_, _<_}
 use mathlib.Core.Path.{_≡_, refl, sym, ap, ap₂, _∙_}
-use mathlib.Core.List.{List, [], _∷_, _++_, append-assoc}
+use mathlib.Core.List.{List, [], _∷_, _++_, append-assoc, append-nil}
 use native.Mathlib.Numerals.{add-one, towards-suc}
+use native.Mathlib.Nat.{add-zero}
 use native.Mathlib.Omega.{arith}
-use lib.ListN.{length, getD, take, drop, set, length-append, length-take, length-drop}
+use lib.ListN.{length, getD, take, drop, set, length-append, length-take, length-drop, take-append-drop}
 use lib.Seq.{drop-cons, take-suc, set-at, sets, sets-eq, take-at, drop-at, drop-drop, drop-append-le, length-take-le}
 use Rattle.paper.specs.Number.{spelled}
 use Rattle.paper.proofs.Numbers.{spelled-length}
@@ -14,13 +15,18 @@ pub put-length : (k : ℕ) (bytes old : List ℕ) → k + length bytes ≤ lengt
 unfolding put
 put-length k bytes old h = simp (length-append, length-take, length-drop) (omega arith)
 
+-- no bytes change nothing
+pub put-none : (k : ℕ) (old : List ℕ) → put k [] old ≡ old
+unfolding put
+put-none k old = rw (append-nil, add-zero) (take-append-drop k old)
+
 -- four stores
 pub put-4 : (s : List ℕ) (k a b c d : ℕ) → k + 4 ≤ length s → set (set (set (set s k a) (k + 1) b) (k + 2) c) (k + 3) d ≡ put k (a ∷ b ∷ c ∷ d ∷ []) s
 unfolding put
 put-4 s k a b c d h = simp towards-suc (simp towards-suc at (sets-eq (a ∷ b ∷ c ∷ d ∷ []) s k h))
 
 -- one put after another
-pub put-put : (k : ℕ) (x y old : List ℕ) → k + length x + length y ≤ length old → put (k + length x) y (put k x old) ≡ put k (x ++ y) old
+pub put-put : (k : ℕ) (x y old : List ℕ) → k ≤ length old → put (k + length x) y (put k x old) ≡ put k (x ++ y) old
 unfolding put
 put-put k x y old h =
     let front : List ℕ = take k old ++ x in

@@ -8,7 +8,7 @@ use lib.ListN.{length}
 use lib.Seq.{drop-length}
 use native.Mathlib.Omega.{arith}
 use borrow.Author.Tests.{ltb-false, le-ltb}
-use Rattle.paper.specs.Answer.{Said, answer, refuse, guard, _then_, Wrote, over, output, NoRoom}
+use Rattle.paper.specs.Answer.{Said, answer, refuse, guard, _then_, Wrote, comes-back, over, output, NoRoom}
 
 -- an answer holds one value
 pub answer-injective : {A : Type 0} {a b : A} → answer a ≡ answer b → a ≡ b
@@ -31,6 +31,11 @@ guard-answer false k r e = record { clear = refl; onward = e }
 -- a check whose fault is not there is passed
 pub guard-passes : {A : Type 0} {fault : Bool} (k : ℕ) (r : Said A) → fault ≡ false → guard fault k r ≡ r
 guard-passes k r e = rw e
+
+-- a check before an answer that refuses: its fault is there, and the number is its own
+pub guard-refuse : {A : Type 0} {j : ℕ} (fault : Bool) (k : ℕ) (a : A) → guard fault k (answer a) ≡ refuse j → (fault ≡ true) × (k ≡ j)
+guard-refuse true k a e = (refl, cc)
+guard-refuse false k a e = absurd (refuse-not-answer (sym e))
 
 -- Two checks in order that were passed: the first answers `first`, and from there the second answers b.
 pub record Both {A B : Type 0} (r : Said A) (f : A → Said B) (b : B) : Type 0 where
@@ -87,4 +92,7 @@ pub over-refused : {A : Type 0} (old : List ℕ) (r : Said (Wrote A)) {k : ℕ} 
 unfolding over
 over-refused old r e = rw e
 
--- ---- several faults in one check
+-- it comes back alone, and the lent slice stays
+pub refused : {A : Type 0} {r : Said (Wrote A)} {k : ℕ} (old : List ℕ) → r ≡ refuse k → (refuse k ≡ comes-back r) × (old ≡ over old r)
+unfolding comes-back over
+refused old e = rw e (refl, refl)

@@ -38,6 +38,13 @@ compared-block old new a = go (same (block old a) (block new a)) refl
     go true e = alike (same-true _ _ e) (rw e)
     go false e = unlike (same-false _ _ e) (rw e)
 
+-- beyond the images nothing differs
+pub alike-beyond : (old new : List ℕ) (a : ℕ) → length old ≡ length new → length new ≤ block-bytes * a → differing old new a ≡ none
+alike-beyond old new a long l = elim (compared-block old new a) [
+  | alike s n ↦ n
+  | unlike s n ↦ absurd (s (block-beyond old a (omega arith) ∙ sym (block-beyond new a l)))
+]
+
 -- the map of a comparison is one that a diff can mean
 pub differing-fits : (old new : List ℕ) → Whole-image new → length old ≡ length new → Fits (differing old new)
 differing-fits old new w long = record { within = λ a c e. of a c e .0; whole = λ a c e. of a c e .1 }
@@ -46,7 +53,7 @@ differing-fits old new w long = record { within = λ a c e. of a c e .0; whole =
     of a c e = elim (compared-block old new a) [
       | alike s n ↦ let z : _≡_ {A = ℕ} 0 1 = cc in absurd (omega arith)
       | unlike s n ↦ elim (decLe (length new) (block-bytes * a)) [
-        | yes l ↦ absurd (s (block-beyond old a (omega arith) ∙ sym (block-beyond new a l)))
+        | yes l ↦ let z : _≡_ {A = ℕ} 0 1 = cc (alike-beyond old new a long l) in absurd (omega arith)
         | no l ↦
             let c-is : c ≡ block new a = cc in
             let inside : block-bytes * a + block-bytes ≤ length new = omega arith in

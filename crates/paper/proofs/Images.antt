@@ -13,8 +13,8 @@ use lib.ListN.{length, getD, take, drop, length-take, length-drop, drop-of-lengt
 use lib.Seq.{getD-take, getD-drop, ext-getD}
 use Rattle.paper.specs.Limits.{block-bytes, max-blocks}
 use Rattle.paper.specs.Image.{Map, bad-image, check-image, block, each, byte-after, overlay, same}
-use Rattle.paper.specs.Answer.{answer, guard, BadImage}
-use Rattle.paper.proofs.Answers.{answer-injective, Passed, guard-answer}
+use Rattle.paper.specs.Answer.{answer, refuse, guard, BadImage}
+use Rattle.paper.proofs.Answers.{answer-injective, Passed, guard-answer, guard-refuse}
 use Rattle.paper.proofs.Numbers.{part-length}
 use Rattle.paper.proofs.Bools.{neither, and-true-left, and-true-right}
 
@@ -80,6 +80,16 @@ same-true (x ∷ xs) (y ∷ ys) e =
 pub image-blocks : {m : ℕ} (img : List ℕ) → check-image img ≡ answer m → m ≡ length img / 512
 unfolding check-image
 image-blocks img e = sym (answer-injective (guard-answer (bad-image img) BadImage _ e .onward))
+
+-- an image is refused where it is bad, and only with BadImage
+pub image-no : {k : ℕ} (img : List ℕ) → check-image img ≡ refuse k → (bad-image img ≡ true) × (BadImage ≡ k)
+unfolding check-image
+image-no img e = guard-refuse (bad-image img) BadImage _ e
+
+-- and passes where it is not
+pub image-yes : {m : ℕ} (img : List ℕ) → check-image img ≡ answer m → bad-image img ≡ false
+unfolding check-image
+image-yes img e = guard-answer (bad-image img) BadImage _ e .clear
 
 -- the image rule looks at the length alone
 pub same-length-image : (x y : List ℕ) → length x ≡ length y → check-image x ≡ check-image y

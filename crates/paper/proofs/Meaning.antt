@@ -1,13 +1,14 @@
 -- A diff and its meaning determine each other: the bytes written for a map pass the check and mean that map,
 -- and a diff that passes is the one byte string that its own meaning writes. Both walk over the addresses 0, 1, .. and over the records together:
 -- the next record is that of the address exactly where the map names it.
-use Prim.Native.Nat.{ℕ, zero, suc, _+_, _*_, _≤_, _<_}
+use Prim.Native.Nat.{ℕ, zero, suc, _+_, _-_, _*_, _≤_, _<_}
 use mathlib.Core.Path.{_≡_, refl, sym, _∙_}
 use mathlib.Core.Option.{none, some}
 use mathlib.Core.List.{List, [], _++_}
 use mathlib.Core.Bool.{true, false}
 use lib.ListN.{length, drop, length-append, length-drop, drop-of-length-le}
 use lib.Seq.{drop-at, drop-drop}
+use native.Mathlib.Numerals.{add-one}
 use native.Mathlib.Omega.{arith}
 use native.Mathlib.Decide.{ℕ-discrete, decLt}
 use Rattle.paper.specs.Limits.{max-blocks, block-bytes, head-size, record-size, block-mark}
@@ -15,7 +16,7 @@ use Rattle.paper.specs.Number.{Bytes, opens}
 use Rattle.paper.specs.Answer.{answer}
 use Rattle.paper.specs.Image.{Map}
 use Rattle.paper.specs.Diff.{Head, head-bytes, bad-head, rest, address-of, content-of, record-bytes, check-records, check, named-by, named}
-use Rattle.paper.specs.Diff.{records-of, count-of, counted, written}
+use Rattle.paper.specs.Diff.{record-for, one-for, records-of, count-of, counted, written}
 use Rattle.paper.proofs.Numbers.{bytes-drop, bytes-append}
 use Rattle.paper.proofs.Check.{good-head, Headed, Record-passed, record-passes, records-sound, Sound, sound, check-answers}
 use Rattle.paper.proofs.Names.{Named-by, named-by-here, named-by-later, named-by-none, unnamed, named-as, seen, Fits, beyond, named-sound, none-named}
@@ -36,6 +37,15 @@ next f a k = elim (seen f a) [
   | unnamed e ↦ skips e (rw e) (rw e (omega arith))
   | named-as c e ↦ takes c e (rw e) (rw e (omega arith))
 ]
+
+-- of n addresses, those from a on are a and those from a + 1 on
+pub records-left : (f : Map) (a n : ℕ) → a < n → records-of f a (n - a) ≡ record-for a (f a) ++ records-of f (a + 1) (n - (a + 1))
+unfolding records-of
+records-left f a n l = let k : n - a ≡ suc (n - (a + 1)) = omega arith in rw (k, add-one)
+
+pub count-left : (f : Map) (a n : ℕ) → a < n → count-of f a (n - a) ≡ one-for (f a) + count-of f (a + 1) (n - (a + 1))
+unfolding count-of
+count-left f a n l = let k : n - a ≡ suc (n - (a + 1)) = omega arith in rw (k, add-one)
 
 -- no address has no record
 pub records-zero : (f : Map) (a : ℕ) → records-of f a 0 ≡ []
@@ -80,6 +90,24 @@ unfolding count-of
 count-same f g a zero same = refl
 count-same f g a (suc k) same =
     rw (same a (omega arith) (omega arith), count-same f g (suc a) k λ b x y. same b (omega arith) (omega arith))
+
+-- more addresses, none of them named, have no more records
+pub records-beyond : (f : Map) (a n k : ℕ) → ((b : ℕ) → a + n ≤ b → f b ≡ none) → records-of f a (n + k) ≡ records-of f a n
+unfolding records-of
+records-beyond f a zero zero rest = refl
+records-beyond f a zero (suc k) rest =
+    let e : 0 + suc k ≡ suc (0 + k) = omega arith in
+    rw (e, rest a (omega arith)) (records-beyond f (suc a) 0 k λ b l. rest b (omega arith))
+records-beyond f a (suc n) k rest = let e : suc n + k ≡ suc (n + k) = omega arith in rw (e, records-beyond f (suc a) n k λ b l. rest b (omega arith))
+
+-- and count no more
+pub count-beyond : (f : Map) (a n k : ℕ) → ((b : ℕ) → a + n ≤ b → f b ≡ none) → count-of f a (n + k) ≡ count-of f a n
+unfolding count-of
+count-beyond f a zero zero rest = refl
+count-beyond f a zero (suc k) rest =
+    let e : 0 + suc k ≡ suc (0 + k) = omega arith in
+    rw (e, rest a (omega arith)) (omega (arith, count-beyond f (suc a) 0 k λ b l. rest b (omega arith)))
+count-beyond f a (suc n) k rest = let e : suc n + k ≡ suc (n + k) = omega arith in rw (e, count-beyond f (suc a) n k λ b l. rest b (omega arith))
 
 -- records of bytes are bytes
 pub records-bytes : (f : Map) → ((a : ℕ) (c : List ℕ) → f a ≡ some c → Bytes c) → (a k : ℕ) → Bytes (records-of f a k)

@@ -11,7 +11,9 @@ use lib.Dec.{leb, eqb}
 use lib.ListN.{length, take, drop, length-drop}
 use lib.Seq.{take-all}
 use borrow.Author.Tests.{eq-eqb, ne-eqb}
+use Rattle.paper.specs.Limits.{block-bytes}
 use Rattle.paper.specs.Answer.{Said, answer, refuse, _then_}
+use Rattle.paper.specs.Image.{block}
 use Rattle.paper.specs.Diff.{Head, rest, address-of, check-record, check-records, check, seek, names-outside}
 use Rattle.paper.proofs.Answers.{answer-injective}
 use Rattle.paper.proofs.Check.{Record-passed, record-sound, sound}
@@ -30,6 +32,11 @@ part-all d at = take-all (length d - at) (drop at d) (rw length-drop (omega arit
 -- the part from record i on
 pub part-rest : (d : List ℕ) (i at : ℕ) → at ≡ 24 + 518 * i → take (length d - at) (drop at d) ≡ rest d i
 part-rest d i at e = part-all d at ∙ ap (λ (k : ℕ). drop k d) e
+
+-- the first block of the part from block a on is block a
+pub part-block : (img : List ℕ) (a at : ℕ) → at ≡ block-bytes * a → take block-bytes (take (length img - at) (drop at img)) ≡ block img a
+unfolding block
+part-block img a at e = rw (part-all img at, e)
 
 -- one record more
 pub records-more : (d : List ℕ) (n i low a : ℕ) → i < n → check-record (rest d i) low ≡ answer a
