@@ -1,0 +1,62 @@
+-- What a map has left from an address on, up to 65,536: addresses that it does not name change nothing, one that it names takes its record.
+use Prim.Native.Nat.{ℕ, zero, suc, _+_, _-_, _≤_, _<_}
+use mathlib.Core.Path.{_≡_, refl, sym, _∙_}
+use mathlib.Core.Option.{none, some}
+use mathlib.Core.List.{List, _++_}
+use native.Mathlib.Omega.{arith}
+use native.Mathlib.Numerals.{add-one}
+use native.Mathlib.Nat.{add-zero}
+use Rattle.paper.specs.Limits.{max-blocks}
+use Rattle.paper.specs.Image.{Map}
+use Rattle.paper.specs.Diff.{record-bytes, records-of, count-of}
+use Rattle.paper.proofs.Meaning.{Next, skips, takes, next}
+
+-- the records of a map from address a on, and their number
+abbrev pub records-left : Map → ℕ → List ℕ
+records-left f a = records-of f a (max-blocks - a)
+
+abbrev pub count-left : Map → ℕ → ℕ
+count-left f a = count-of f a (max-blocks - a)
+
+-- From a on and from b on the same is left.
+pub record Same-left (f : Map) (a b : ℕ) : Type 0 where
+  pub records : records-left f a ≡ records-left f b
+  pub count : count-left f a ≡ count-left f b
+
+-- k addresses that are not named
+skip : (f : Map) (a k : ℕ) → a + k ≤ max-blocks → ((b : ℕ) → a ≤ b → b < a + k → f b ≡ none) → Same-left f a (a + k)
+skip f a zero l unnamed = record { records = rw add-zero; count = rw add-zero }
+skip f a (suc k) l unnamed =
+    let e : max-blocks - a ≡ suc (max-blocks - suc a) = omega arith in
+    let g : a + suc k ≡ suc a + k = omega arith in
+    let later = skip f (suc a) k (omega arith) λ b x y. unnamed b (omega arith) (omega arith) in
+    elim (next f a (max-blocks - suc a)) [
+      | skips here r n ↦ record { records = rw (e, g) (r ∙ later .records); count = rw (e, g) (n ∙ later .count) }
+      | takes c here r n ↦
+          let none-here = unnamed a (omega arith) (omega arith) in
+          let z : _≡_ {A = ℕ} 0 1 = cc in
+          absurd (omega arith)
+    ]
+
+-- where no address from a up to b is named, the same is left
+pub same-left : (f : Map) (a b : ℕ) → a ≤ b → b ≤ max-blocks → ((k : ℕ) → a ≤ k → k < b → f k ≡ none) → Same-left f a b
+same-left f a b l m unnamed =
+    let e : a + (b - a) ≡ b = omega arith in
+    rw e at (skip f a (b - a) (omega arith) λ k x y. unnamed k x (omega arith))
+
+-- From a on, its record is left and what is left from b on.
+pub record Takes (f : Map) (a b : ℕ) : Type 0 where
+  pub content : List ℕ
+  pub named : f a ≡ some content
+  pub records : records-left f a ≡ record-bytes a content ++ records-left f b
+  pub count : count-left f a ≡ suc (count-left f b)
+
+-- where a is named, its record is taken
+pub takes-next : (f : Map) (a b : ℕ) {c : List ℕ} → f a ≡ some c → a < max-blocks → Same-left f (a + 1) b → Takes f a b
+takes-next f a b named l same =
+    let e : max-blocks - a ≡ suc (max-blocks - suc a) = omega arith in
+    let same′ : Same-left f (suc a) b = rw add-one at same in
+    elim (next f a (max-blocks - suc a)) [
+      | skips here r n ↦ let z : _≡_ {A = ℕ} 0 1 = cc in absurd (omega arith)
+      | takes c here r n ↦ record { content = c; named = here; records = rw (e, r, same′ .records); count = rw (e, n, same′ .count) }
+    ]

@@ -1,0 +1,3 @@
+-- Laws that the functions' proofs cite, and that a merge has one outcome.
+pub mod Left
+pub mod Cursors
