@@ -2,14 +2,14 @@
 use Prim.Native.Nat.{ℕ, zero, suc, _+_, _-_, _≤_, _<_}
 use mathlib.Core.Path.{_≡_, refl, sym, _∙_}
 use mathlib.Core.Option.{none, some}
-use mathlib.Core.List.{List, _++_}
+use mathlib.Core.List.{List, [], _++_}
 use native.Mathlib.Omega.{arith}
 use native.Mathlib.Numerals.{add-one}
 use native.Mathlib.Nat.{add-zero}
 use Rattle.paper.specs.Limits.{max-blocks}
 use Rattle.paper.specs.Image.{Map}
 use Rattle.paper.specs.Diff.{record-bytes, records-of, count-of}
-use Rattle.paper.proofs.Meaning.{Next, skips, takes, next}
+use Rattle.paper.proofs.Meaning.{Next, skips, takes, next, records-zero, count-zero}
 
 -- the records of a map from address a on, and their number
 abbrev pub records-left : Map → ℕ → List ℕ
@@ -52,11 +52,23 @@ pub record Takes (f : Map) (a b : ℕ) : Type 0 where
   pub count : count-left f a ≡ suc (count-left f b)
 
 -- where a is named, its record is taken
-pub takes-next : (f : Map) (a b : ℕ) {c : List ℕ} → f a ≡ some c → a < max-blocks → Same-left f (a + 1) b → Takes f a b
-takes-next f a b named l same =
+pub takes-here : (f : Map) (a : ℕ) {c : List ℕ} → f a ≡ some c → a < max-blocks → Takes f a (a + 1)
+takes-here f a named l =
     let e : max-blocks - a ≡ suc (max-blocks - suc a) = omega arith in
-    let same′ : Same-left f (suc a) b = rw add-one at same in
     elim (next f a (max-blocks - suc a)) [
       | skips here r n ↦ let z : _≡_ {A = ℕ} 0 1 = cc in absurd (omega arith)
-      | takes c here r n ↦ record { content = c; named = here; records = rw (e, r, same′ .records); count = rw (e, n, same′ .count) }
+      | takes c here r n ↦ record { content = c; named = here; records = rw (e, add-one) r; count = rw (e, add-one) n }
     ]
+
+-- and then addresses that are not named
+pub takes-then : (f : Map) (a b k : ℕ) → Takes f a b → Same-left f b k → Takes f a k
+takes-then f a b k t same = record {
+  content = t .content;
+  named = t .named;
+  records = rw (same .records) at (t .records);
+  count = rw (same .count) at (t .count);
+}
+
+-- from 65,536 on nothing is left
+pub none-left : (f : Map) (a : ℕ) → max-blocks ≤ a → (records-left f a ≡ []) × (count-left f a ≡ 0)
+none-left f a l = let e : max-blocks - a ≡ 0 = omega arith in (rw e (records-zero f a), rw e (count-zero f a))
