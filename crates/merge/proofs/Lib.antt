@@ -2,3 +2,5 @@
 pub mod Left
 pub mod Cursors
 pub mod Walks
+pub mod Answers
+pub mod One

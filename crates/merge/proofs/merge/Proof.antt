@@ -1,38 +1,31 @@
+-- The first diff is checked: its refusal is the answer, else it has passed.
+use mathlib.Core.Path.{sym, ap, _∙_}
+use Rattle.record.specs.Heads.{said-head}
+use Rattle.merge.proofs.Answers.{first-no}
 use borrow.Author.Needs.{needs}
 use Rattle.merge.proofs.merge.Statement.{statement}
 use Rattle.merge.proofs.merge.Tie as tie
-use Rattle.merge.proofs.merge.Reads as reads
-use Rattle.merge.proofs.merge.Lts as lts
-use Rattle.diff.proofs.check.Reads as check-reads
-use Rattle.merge.proofs.merge_second.Reads as merge-second-reads
 
--- src/lib.rt:25:9
 check-requires : tie.Need-check-requires
-check-requires c κs = ?
+check-requires c κs = search needs
 
--- src/lib.rt:27:22
 enum-known-said : tie.Need-enum-known-said
-enum-known-said c = ?
+enum-known-said c = search needs
 
--- src/lib.rt:28:25
 enum-known-said-2 : tie.Need-enum-known-said-2
-enum-known-said-2 c = ?
+enum-known-said-2 c = search needs
 
--- src/lib.rt:28:31
 merge-second-requires : tie.Need-merge-second-requires
-merge-second-requires c κs = ?
+merge-second-requires c κs = sym (c .before .before .before .before .check .ensures) ∙ ap said-head (c .before .before .said2 .given .1)
 
--- src/lib.rt:21:1
 returns : tie.Need-returns
-returns c = ?
+returns c = first-no _ _ _ _ (sym (c .before .before .before .check .ensures) ∙ ap said-head (c .before .said .given .1))
 
--- src/lib.rt:21:1
 same-length : tie.Need-same-length
-same-length c = ?
+same-length c = search needs
 
--- src/lib.rt:21:1
 returns-2 : tie.Need-returns-2
-returns-2 c = ?
+returns-2 c = search needs
 
 pub merge-spec : {M : Type 1} → statement M
 merge-spec =

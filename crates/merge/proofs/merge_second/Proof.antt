@@ -1,38 +1,31 @@
+-- The second diff is checked: its refusal is the answer, else both have passed.
+use mathlib.Core.Path.{sym, ap, _∙_}
+use Rattle.record.specs.Heads.{said-head}
+use Rattle.merge.proofs.Answers.{second-no}
 use borrow.Author.Needs.{needs}
 use Rattle.merge.proofs.merge_second.Statement.{statement}
 use Rattle.merge.proofs.merge_second.Tie as tie
-use Rattle.merge.proofs.merge_second.Reads as reads
-use Rattle.merge.proofs.merge_second.Lts as lts
-use Rattle.diff.proofs.check.Reads as check-reads
-use Rattle.merge.proofs.merge_sound.Reads as merge-sound-reads
 
--- src/lib.rt:38:9
 check-requires : tie.Need-check-requires
-check-requires c κs = ?
+check-requires c κs = search needs
 
--- src/lib.rt:40:22
 enum-known-said : tie.Need-enum-known-said
-enum-known-said c = ?
+enum-known-said c = search needs
 
--- src/lib.rt:41:25
 enum-known-said-2 : tie.Need-enum-known-said-2
-enum-known-said-2 c = ?
+enum-known-said-2 c = search needs
 
--- src/lib.rt:41:31
 merge-sound-requires : tie.Need-merge-sound-requires
-merge-sound-requires c κs = ?
+merge-sound-requires c κs = record { first = c .before .before .before .before .before .before .before .before .pre; second = sym (c .before .before .before .before .check .ensures) ∙ ap said-head (c .before .before .said2 .given .1) }
 
--- src/lib.rt:33:1
 returns : tie.Need-returns
-returns c = ?
+returns c = second-no _ _ _ _ _ (c .before .before .before .before .before .before .before .pre) (sym (c .before .before .before .check .ensures) ∙ ap said-head (c .before .said .given .1))
 
--- src/lib.rt:33:1
 same-length : tie.Need-same-length
-same-length c = ?
+same-length c = search needs
 
--- src/lib.rt:33:1
 returns-2 : tie.Need-returns-2
-returns-2 c = ?
+returns-2 c = search needs
 
 pub merge-second-spec : {M : Type 1} → statement M
 merge-second-spec =

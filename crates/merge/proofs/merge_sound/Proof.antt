@@ -1,59 +1,67 @@
+-- One check after another in 01's order; where none refuses, the head and then the records are put, and nothing before.
+use native.Mathlib.Omega.{arith}
+use Rattle.paper.proofs.Meaning.{count-le}
+use Rattle.record.specs.Heads.{head}
+use Rattle.merge.specs.Walks.{both}
+use Rattle.merge.proofs.Answers.{compared-first, compared-second, apart, no-room, all-written}
 use borrow.Author.Needs.{needs}
 use Rattle.merge.proofs.merge_sound.Statement.{statement}
 use Rattle.merge.proofs.merge_sound.Tie as tie
-use Rattle.merge.proofs.merge_sound.Reads as reads
-use Rattle.merge.proofs.merge_sound.Lts as lts
-use Rattle.merge.proofs.count_records.Reads as count-records-reads
-use Rattle.merge.proofs.write_records.Reads as write-records-reads
-use Rattle.record.proofs.head.Head.write.Reads as write-reads
 
--- src/lib.rt:52:9
 returns : tie.Need-returns
-returns c = ?
+returns c =
+    let start = c .before .before .before .before .before in
+    compared-first _ _ _ (head (start .args .h0)) (head (start .args .h1)) (start .pre) (c .if1 .taken)
 
--- src/lib.rt:55:9
 returns-2 : tie.Need-returns-2
-returns-2 c = ?
+returns-2 c =
+    let start = c .before .before .before .before .before .before .before in
+    compared-second _ _ _ (head (start .args .h0)) (head (start .args .h1)) (start .pre) (c .before .before .if1 .left) (c .if2 .taken)
 
--- src/lib.rt:58:9
 returns-3 : tie.Need-returns-3
-returns-3 c = ?
+returns-3 c =
+    let start = c .before .before .before .before .before .before .before .before .before .before in
+    apart _ _ _ (head (start .args .h0)) (head (start .args .h1)) (start .pre) (c .before .before .before .before .before .if1 .left) (c .before .before .before .if2 .left) (c .if3 .taken)
 
--- src/lib.rt:60:9
 count-records-requires : tie.Need-count-records-requires
-count-records-requires c κs = ?
+count-records-requires c κs = c .before .before .before .before .before .before .before .before .before .before .pre
 
--- src/lib.rt:61:29
 mul-size : tie.Need-mul-size
-mul-size c = ?
+mul-size c =
+    let args = c .before .before .before .before .before .before .before .before .before .before .before .args in
+    omega (arith, c .count-records .ensures, count-le (both (args .first .now) (args .second .now)) 0 65536)
 
--- src/lib.rt:61:16
 add-size : tie.Need-add-size
-add-size c = ?
+add-size c =
+    let args = c .before .before .before .before .before .before .before .before .before .before .before .args in
+    omega (arith, c .count-records .ensures, count-le (both (args .first .now) (args .second .now)) 0 65536)
 
--- src/lib.rt:63:9
 returns-4 : tie.Need-returns-4
-returns-4 c = ?
+returns-4 c =
+    let start = c .before .before .before .before .before .before .before .before .before .before .before .before in
+    no-room _ _ _ (head (start .args .h0)) (head (start .args .h1)) (start .pre) (c .before .before .before .before .before .before .before .if1 .left) (c .before .before .before .before .before .if2 .left) (c .before .before .if3 .left) _ (c .before .count-records .ensures)
+    (c .if4 .taken)
 
--- src/lib.rt:70:12
 cast-t15 : tie.Need-cast-t15
-cast-t15 c = ?
+cast-t15 c =
+    let args = c .before .before .before .before .before .before .before .before .before .before .before .before .args in
+    omega (arith, c .before .count-records .ensures, count-le (both (args .first .now) (args .second .now)) 0 65536)
 
--- src/lib.rt:72:5
 write-requires : tie.Need-write-requires
-write-requires c κs = ?
+write-requires c κs = omega (arith, c .before .if4 .left)
 
--- src/lib.rt:73:5
 write-records-requires : tie.Need-write-records-requires
-write-records-requires c κs = ?
+write-records-requires c κs =
+    (c .before .before .before .before .before .before .before .before .before .before .before .before .before .before .before .before .before .pre, omega (arith, c .before .before .before .before .before .if4 .left, c .before .before .before .write .kept .1 .0, c .before .before .before .before .before .before .count-records .ensures))
 
--- src/lib.rt:46:1
 same-length : tie.Need-same-length
-same-length c = ?
+same-length c = omega (arith, c .before .before .before .before .before .before .write .kept .1 .0, c .before .before .write-records .kept .1 .1 .1 .1 .0)
 
--- src/lib.rt:46:1
 returns-5 : tie.Need-returns-5
-returns-5 c = ?
+returns-5 c =
+    let start = c .before .before .before .before .before .before .before .before .before .before .before .before .before .before .before .before .before .before .before .before in
+    all-written _ _ _ (head (start .args .h0)) (head (start .args .h1)) (start .pre) (c .before .before .before .before .before .before .before .before .before .before .before .before .before .before .before .if1 .left) (c .before .before .before .before .before .before .before .before .before .before .before .before .before .if2 .left) (c .before .before .before .before .before .before .before .before .before .before .if3 .left) _ (c .before .before .before .before .before .before .before .before .before .count-records .ensures) _ _
+    (c .before .before .before .before .before .before .before .before .if4 .left) (c .before .before .before .before .before .before .write .ensures) (c .before .before .write-records .ensures)
 
 pub merge-sound-spec : {M : Type 1} → statement M
 merge-sound-spec =
