@@ -17,16 +17,13 @@ use Rattle.number.specs.Put.{put}
 use Rattle.record.proofs.Stores.{put-next}
 use Rattle.record.proofs.StateLaws.{put-first}
 use Rattle.merge.specs.Walks.{Passed, both}
+use Rattle.merge.specs.Gives.{Gives}
 use Rattle.merge.proofs.Walks.{both-fits}
-
--- What a call that writes says and leaves, where `m` is what it is to give.
-abbrev pub Gives : List ℕ → Said (Wrote ℕ) → Said ℕ → List ℕ → Type 0
-Gives old m said new = (said ≡ comes-back m) × (new ≡ over old m)
 
 -- a refusal gives its number, and leaves the lent slice as it was
 refused : (old : List ℕ) (m : Said (Wrote ℕ)) {k : ℕ} → m ≡ refuse k → Gives old m (refuse k) old
 unfolding comes-back over
-refused old m e = (rw e, rw e)
+refused old m e = record { answered = rw e; leaves = rw e }
 
 module _ (d₀ d₁ old : List ℕ) where
   pub first-no : (k : ℕ) → check d₀ ≡ refuse k → Gives old (merge d₀ d₁ (length old)) (refuse k) old
@@ -75,4 +72,5 @@ module _ (d₀ d₁ old : List ℕ) where
           let m = records-length (both-fits d₀ d₁ h₀ h₁ p) 0 max-blocks in
           let laid = put-next (head-bytes h) (records-of (both d₀ d₁) 0 max-blocks) old t u head-size (head-length h) (omega arith) e f in
           let own : head-bytes h ++ records-of (both d₀ d₁) 0 max-blocks ≡ whole = rw count in
-          rw (p .first, p .second, heads, output-fits whole (length old) (rw size l)) (ap answer (sym size), laid ∙ rw own (put-first whole old))
+          let given : merge d₀ d₁ (length old) ≡ answer (wrote whole) = rw (p .first, p .second, heads) (output-fits whole (length old) (rw size l)) in
+          record { answered = rw given (ap answer (sym size)); leaves = rw given (laid ∙ rw own (put-first whole old)) }

@@ -17,7 +17,8 @@ use Rattle.paper.proofs.Check.{Sound}
 use Rattle.paper.proofs.Names.{content-length, names-record, named-none}
 use Rattle.paper.proofs.Merging.{merged-first, merged-second}
 use Rattle.merge.specs.declared.Cursor.{Cursor}
-use Rattle.merge.specs.Walks.{both, address-at, On, Walk}
+use Rattle.merge.specs.declared.Walk.{Walk}
+use Rattle.merge.specs.Walks.{both, address-at, On, Walking}
 
 -- the address at a record
 pub at-record : (d : List ℕ) (n i : ℕ) → i < n → address-at d n i ≡ address-of (rest d i)
@@ -107,31 +108,31 @@ record-whole {d} s bytes i l =
 
 -- ---- the lowest of two addresses
 
-module _ {d₀ d₁ : List ℕ} {h₀ h₁ : Head} (s₀ : Sound d₀ h₀) (s₁ : Sound d₁ h₁) (low : ℕ) (a b : Cursor) (walk : Walk d₀ d₁ h₀ h₁ a b low) where
+module _ {d₀ d₁ : List ℕ} {h₀ h₁ : Head} (s₀ : Sound d₀ h₀) (s₁ : Sound d₁ h₁) (w : Walk) (walk : Walking d₀ d₁ h₀ h₁ w) where
   -- where the second's is higher, the first's is the lower, and the merge has its content
-  pub named-first : low < b .address → both d₀ d₁ low ≡ some (content-of (rest d₀ (a .place)))
+  pub named-first : w .low < w .b .address → both d₀ d₁ (w .low) ≡ some (content-of (rest d₀ (w .a .place)))
   named-first l =
-      let few = on-few s₁ low b (walk .second) in
-      let e : low ≡ a .address = omega (arith, walk .lowest) in
-      merged-first (named d₀) (named d₁) (on-unnamed s₁ low b (walk .second) low (omega arith) l) ∙ rw e (on-named s₀ low a (walk .first) (omega arith))
+      let few = on-few s₁ (w .low) (w .b) (walk .second) in
+      let e : w .low ≡ w .a .address = omega (arith, walk .lowest) in
+      merged-first (named d₀) (named d₁) (on-unnamed s₁ (w .low) (w .b) (walk .second) (w .low) (omega arith) l) ∙ rw e (on-named s₀ (w .low) (w .a) (walk .first) (omega arith))
 
   -- else it has the second's
-  pub named-second : low < max-blocks → b .address ≤ low → both d₀ d₁ low ≡ some (content-of (rest d₁ (b .place)))
+  pub named-second : w .low < max-blocks → w .b .address ≤ w .low → both d₀ d₁ (w .low) ≡ some (content-of (rest d₁ (w .b .place)))
   named-second l m =
-      let e : low ≡ b .address = omega (arith, walk .lowest) in
-      merged-second (named d₀) (named d₁) (rw e (on-named s₁ low b (walk .second) (omega arith)))
+      let e : w .low ≡ w .b .address = omega (arith, walk .lowest) in
+      merged-second (named d₀) (named d₁) (rw e (on-named s₁ (w .low) (w .b) (walk .second) (omega arith)))
 
   -- so its record is that of the block
-  pub record-first : low < b .address → record-for low (both d₀ d₁ low) ≡ record-bytes (address-of (rest d₀ (a .place))) (content-of (rest d₀ (a .place)))
+  pub record-first : w .low < w .b .address → record-for (w .low) (both d₀ d₁ (w .low)) ≡ record-bytes (address-of (rest d₀ (w .a .place))) (content-of (rest d₀ (w .a .place)))
   record-first l =
-      let few = on-few s₁ low b (walk .second) in
-      let here = on-record s₀ low a (walk .first) (omega (arith, walk .lowest)) .1 in
-      let e : low ≡ address-of (rest d₀ (a .place)) = omega (arith, walk .lowest) in
-      rw (named-first l) (ap (λ (x : ℕ). record-bytes x (content-of (rest d₀ (a .place)))) e)
+      let few = on-few s₁ (w .low) (w .b) (walk .second) in
+      let here = on-record s₀ (w .low) (w .a) (walk .first) (omega (arith, walk .lowest)) .1 in
+      let e : w .low ≡ address-of (rest d₀ (w .a .place)) = omega (arith, walk .lowest) in
+      rw (named-first l) (ap (λ (x : ℕ). record-bytes x (content-of (rest d₀ (w .a .place)))) e)
 
-  pub record-second : low < max-blocks → b .address ≤ low
-      → record-for low (both d₀ d₁ low) ≡ record-bytes (address-of (rest d₁ (b .place))) (content-of (rest d₁ (b .place)))
+  pub record-second : w .low < max-blocks → w .b .address ≤ w .low
+      → record-for (w .low) (both d₀ d₁ (w .low)) ≡ record-bytes (address-of (rest d₁ (w .b .place))) (content-of (rest d₁ (w .b .place)))
   record-second l m =
-      let here = on-record s₁ low b (walk .second) (omega arith) .1 in
-      let e : low ≡ address-of (rest d₁ (b .place)) = omega (arith, walk .lowest) in
-      rw (named-second l m) (ap (λ (x : ℕ). record-bytes x (content-of (rest d₁ (b .place)))) e)
+      let here = on-record s₁ (w .low) (w .b) (walk .second) (omega arith) .1 in
+      let e : w .low ≡ address-of (rest d₁ (w .b .place)) = omega (arith, walk .lowest) in
+      rw (named-second l m) (ap (λ (x : ℕ). record-bytes x (content-of (rest d₁ (w .b .place)))) e)

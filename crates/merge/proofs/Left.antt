@@ -1,27 +1,15 @@
 -- What a map has left from an address on, up to 65,536: addresses that it does not name change nothing, one that it names takes its record.
 use Prim.Native.Nat.{ℕ, zero, suc, _+_, _-_, _≤_, _<_}
-use mathlib.Core.Path.{_≡_, refl, sym, _∙_}
+use mathlib.Core.Path.{_≡_, _∙_}
 use mathlib.Core.Option.{none, some}
-use mathlib.Core.List.{List, [], _++_}
+use mathlib.Core.List.{List, []}
 use native.Mathlib.Omega.{arith}
 use native.Mathlib.Numerals.{add-one}
 use native.Mathlib.Nat.{add-zero}
 use Rattle.paper.specs.Limits.{max-blocks}
 use Rattle.paper.specs.Image.{Map}
-use Rattle.paper.specs.Diff.{record-bytes, records-of, count-of}
 use Rattle.paper.proofs.Meaning.{Next, skips, takes, next, records-zero, count-zero}
-
--- the records of a map from address a on, and their number
-abbrev pub records-left : Map → ℕ → List ℕ
-records-left f a = records-of f a (max-blocks - a)
-
-abbrev pub count-left : Map → ℕ → ℕ
-count-left f a = count-of f a (max-blocks - a)
-
--- From a on and from b on the same is left.
-pub record Same-left (f : Map) (a b : ℕ) : Type 0 where
-  pub records : records-left f a ≡ records-left f b
-  pub count : count-left f a ≡ count-left f b
+use Rattle.merge.specs.Walks.{records-left, count-left, Same-left, Takes}
 
 -- k addresses that are not named
 skip : (f : Map) (a k : ℕ) → a + k ≤ max-blocks → ((b : ℕ) → a ≤ b → b < a + k → f b ≡ none) → Same-left f a (a + k)
@@ -43,13 +31,6 @@ pub same-left : (f : Map) (a b : ℕ) → a ≤ b → b ≤ max-blocks → ((k :
 same-left f a b l m unnamed =
     let e : a + (b - a) ≡ b = omega arith in
     rw e at (skip f a (b - a) (omega arith) λ k x y. unnamed k x (omega arith))
-
--- From a on, its record is left and what is left from b on.
-pub record Takes (f : Map) (a b : ℕ) : Type 0 where
-  pub content : List ℕ
-  pub named : f a ≡ some content
-  pub records : records-left f a ≡ record-bytes a content ++ records-left f b
-  pub count : count-left f a ≡ suc (count-left f b)
 
 -- where a is named, its record is taken
 pub takes-here : (f : Map) (a : ℕ) {c : List ℕ} → f a ≡ some c → a < max-blocks → Takes f a (a + 1)

@@ -7,8 +7,8 @@ use Rattle.paper.specs.Merge.{merge}
 use Rattle.record.specs.declared.state.Written.{Written}
 use Rattle.record.specs.States.{said-length}
 use Rattle.record.proofs.One.{one-length}
-use Rattle.merge.proofs.Answers.{Gives}
+use Rattle.merge.specs.Gives.{Gives}
 
 pub one-merge : (d₀ d₁ old x y : List ℕ) (r s : Written) → Gives old (merge d₀ d₁ (length old)) (said-length r) x
     → Gives old (merge d₀ d₁ (length old)) (said-length s) y → (r ≡ s) × (x ≡ y)
-one-merge d₀ d₁ old x y r s e f = (one-length r s (e .0 ∙ sym (f .0)), e .1 ∙ sym (f .1))
+one-merge d₀ d₁ old x y r s e f = (one-length r s (e .answered ∙ sym (f .answered)), e .leaves ∙ sym (f .leaves))

@@ -18,122 +18,146 @@ use Rattle.paper.proofs.Merging.{merged-first, merged-fits}
 use Rattle.number.specs.Put.{put}
 use Rattle.number.proofs.Puts.{put-length, put-put}
 use Rattle.record.proofs.Stores.{put-part}
-use Rattle.merge.specs.declared.Cursor.{Cursor}
-use Rattle.merge.specs.Walks.{Passed, both, address-at, On, Walk}
-use Rattle.merge.proofs.Left.{records-left, count-left, Same-left, same-left, Takes, takes-here, takes-then, none-left}
+use Rattle.merge.specs.declared.Walk.{Walk}
+use Rattle.merge.specs.Walks.{Passed, both, address-at, On, Walking, records-left, count-left, Same-left, Takes, Begun, Turned}
+use Rattle.merge.proofs.Left.{same-left, takes-here, takes-then, none-left}
 use Rattle.merge.proofs.Cursors.{on-begins, on-waits, on-few, on-unnamed, named-first, named-second}
 
 -- The count: n records are counted, and the others are left.
-pub record Counting (d₀ d₁ : List ℕ) (h₀ h₁ : Head) (a b : Cursor) (low n : ℕ) : Type 0 where
-  pub walk : Walk d₀ d₁ h₀ h₁ a b low
-  pub count : count-of (both d₀ d₁) 0 max-blocks ≡ n + count-left (both d₀ d₁) low
+pub record Counting (d₀ d₁ : List ℕ) (h₀ h₁ : Head) (w : Walk) (n : ℕ) : Type 0 where
+  pub walking : Walking d₀ d₁ h₀ h₁ w
+  pub count : count-of (both d₀ d₁) 0 max-blocks ≡ n + count-left (both d₀ d₁) (w .low)
+  pub few : count-of (both d₀ d₁) 0 max-blocks ≤ max-blocks
 
 -- The writing: with the records that are left put from `at` on, `out` is what it is to be, and there is room for them.
-pub record Writing (d₀ d₁ : List ℕ) (h₀ h₁ : Head) (old out : List ℕ) (a b : Cursor) (low at : ℕ) : Type 0 where
-  pub walk : Walk d₀ d₁ h₀ h₁ a b low
+pub record Writing (d₀ d₁ : List ℕ) (h₀ h₁ : Head) (old out : List ℕ) (w : Walk) (at : ℕ) : Type 0 where
+  pub walking : Walking d₀ d₁ h₀ h₁ w
   pub same : length out ≡ length old
-  pub room : at + record-size * count-left (both d₀ d₁) low ≤ length out
-  pub left : put at (records-left (both d₀ d₁) low) out ≡ put head-size (records-of (both d₀ d₁) 0 max-blocks) old
+  pub room : at + record-size * count-left (both d₀ d₁) (w .low) ≤ length out
+  pub few : at + record-size * count-left (both d₀ d₁) (w .low) ≤ head-size + record-size * max-blocks
+  pub left : put at (records-left (both d₀ d₁) (w .low)) out ≡ put head-size (records-of (both d₀ d₁) 0 max-blocks) old
 
 -- nothing put changes nothing
 put-nothing : (k : ℕ) (s : List ℕ) → put k [] s ≡ s
 unfolding put
 put-nothing k s = simp (append-nil, add-zero) (take-append-drop k s)
 
+-- ---- the walk
+
 module _ (d₀ d₁ : List ℕ) (h₀ h₁ : Head) (p : Passed d₀ d₁ h₀ h₁) where
   -- the merge is a map that a diff can mean
   pub both-fits : Fits (both d₀ d₁)
   both-fits = merged-fits (named-fits d₀ (p .first)) (named-fits d₁ (p .second))
 
-  -- the walk goes to the lower address, and no address before it is named
-  walk-to : (from low : ℕ) (a b : Cursor) → On d₀ (h₀ .n) from a → On d₁ (h₁ .n) from b → low ≡ min (a .address) (b .address) → Walk d₀ d₁ h₀ h₁ a b low
-  walk-to from low a b on₀ on₁ e =
+  -- the address of a walk is named
+  pub walk-takes : (w : Walk) → Walking d₀ d₁ h₀ h₁ w → w .low < max-blocks → Takes (both d₀ d₁) (w .low) (w .low + 1)
+  walk-takes w walk l =
+      let s₀ = sound (p .first) in
+      let s₁ = sound (p .second) in
+      elim (decLt (w .low) (w .b .address)) [
+        | yes m ↦ takes-here (both d₀ d₁) (w .low) (named-first s₀ s₁ w walk m) l
+        | no m ↦ takes-here (both d₀ d₁) (w .low) (named-second s₀ s₁ w walk l (omega arith)) l
+      ]
+
+  module _ (from : ℕ) (w : Walk) (on₀ : On d₀ (h₀ .n) from (w .a)) (on₁ : On d₁ (h₁ .n) from (w .b)) (e : w .low ≡ min (w .a .address) (w .b .address)) where
+    -- cursors on both diffs walk to the lower of their addresses
+    walk-to : Walking d₀ d₁ h₀ h₁ w
+    walk-to =
+        let x = on₀ .ahead in
+        let y = on₁ .ahead in
+        record {
+          first = on-waits d₀ (h₀ .n) from (w .low) (w .a) on₀ (omega arith) (omega arith);
+          second = on-waits d₁ (h₁ .n) from (w .low) (w .b) on₁ (omega arith) (omega arith);
+          lowest = e;
+        }
+
+    -- and no address before it is named
+    gap : Same-left (both d₀ d₁) from (w .low)
+    gap =
+        let s₀ = sound (p .first) in
+        let s₁ = sound (p .second) in
+        let few = on-few s₀ from (w .a) on₀ in
+        let x = on₀ .ahead in
+        let y = on₁ .ahead in
+        same-left (both d₀ d₁) from (w .low) (omega arith) (omega arith) λ k l m.
+        merged-first (named d₀) (named d₁) (on-unnamed s₁ from (w .b) on₁ k l (omega arith)) ∙ on-unnamed s₀ from (w .a) on₀ k l (omega arith)
+
+  -- cursors at the first records begin a walk
+  pub begins : (w : Walk) → (w .a .place ≡ 0) × (w .a .address ≡ address-at d₀ (h₀ .n) 0) → (w .b .place ≡ 0) × (w .b .address ≡ address-at d₁ (h₁ .n) 0)
+      → w .low ≡ min (w .a .address) (w .b .address) → Begun d₀ d₁ h₀ h₁ w
+  begins w at₀ at₁ e =
+      let on₀ = on-begins d₀ (h₀ .n) (w .a) (at₀ .0) (at₀ .1) in
+      let on₁ = on-begins d₁ (h₁ .n) (w .b) (at₁ .0) (at₁ .1) in
+      record { walking = walk-to 0 w on₀ on₁ e; same = gap 0 w on₀ on₁ e }
+
+  -- cursors past its address make a turn
+  pub turns : (w r : Walk) → Walking d₀ d₁ h₀ h₁ w → w .low < max-blocks → On d₀ (h₀ .n) (w .low + 1) (r .a) → On d₁ (h₁ .n) (w .low + 1) (r .b)
+      → r .low ≡ min (r .a .address) (r .b .address) → Turned d₀ d₁ h₀ h₁ w r
+  turns w r walk l on₀ on₁ e =
       let x = on₀ .ahead in
       let y = on₁ .ahead in
       record {
-        first = on-waits d₀ (h₀ .n) from low a on₀ (omega arith) (omega arith);
-        second = on-waits d₁ (h₁ .n) from low b on₁ (omega arith) (omega arith);
-        lowest = e;
+        walking = walk-to (w .low + 1) r on₀ on₁ e;
+        takes = takes-then (both d₀ d₁) (w .low) (w .low + 1) (r .low) (walk-takes w walk l) (gap (w .low + 1) r on₀ on₁ e);
+        rises = omega arith;
       }
 
-  gap : (from low : ℕ) (a b : Cursor) → On d₀ (h₀ .n) from a → On d₁ (h₁ .n) from b → low ≡ min (a .address) (b .address) → Same-left (both d₀ d₁) from low
-  gap from low a b on₀ on₁ e =
-      let s₀ = sound (p .first) in
-      let s₁ = sound (p .second) in
-      let few = on-few s₀ from a on₀ in
-      let x = on₀ .ahead in
-      let y = on₁ .ahead in
-      same-left (both d₀ d₁) from low (omega arith) (omega arith) λ k l m.
-      merged-first (named d₀) (named d₁) (on-unnamed s₁ from b on₁ k l (omega arith)) ∙ on-unnamed s₀ from a on₀ k l (omega arith)
+-- ---- counting
 
-  -- the address is named
-  pub walk-takes : (a b : Cursor) (low : ℕ) → Walk d₀ d₁ h₀ h₁ a b low → low < max-blocks → Takes (both d₀ d₁) low (low + 1)
-  walk-takes a b low w l =
-      let s₀ = sound (p .first) in
-      let s₁ = sound (p .second) in
-      elim (decLt low (b .address)) [
-        | yes m ↦ takes-here (both d₀ d₁) low (named-first s₀ s₁ low a b w m) l
-        | no m ↦ takes-here (both d₀ d₁) low (named-second s₀ s₁ low a b w l (omega arith)) l
-      ]
+module _ (d₀ d₁ : List ℕ) (h₀ h₁ : Head) where
+  pub count-begins : (w : Walk) → Begun d₀ d₁ h₀ h₁ w → Counting d₀ d₁ h₀ h₁ w 0
+  count-begins w b = record { walking = b .walking; count = omega (arith, b .same .count); few = count-le (both d₀ d₁) 0 max-blocks }
 
-  -- ---- a walk that begins, with both cursors at the first record
+  pub count-goes-on : (w r : Walk) (n : ℕ) → Counting d₀ d₁ h₀ h₁ w n → Turned d₀ d₁ h₀ h₁ w r → Counting d₀ d₁ h₀ h₁ r (n + 1)
+  count-goes-on w r n c t = record { walking = t .walking; count = omega (arith, c .count, t .takes .count); few = c .few }
 
-  module _ (a b : Cursor) (low : ℕ) (at₀ : (a .place ≡ 0) × (a .address ≡ address-at d₀ (h₀ .n) 0))
-      (at₁ : (b .place ≡ 0) × (b .address ≡ address-at d₁ (h₁ .n) 0)) (e : low ≡ min (a .address) (b .address)) where
-    begin₀ : On d₀ (h₀ .n) 0 a
-    begin₀ = on-begins d₀ (h₀ .n) a (at₀ .0) (at₀ .1)
+  pub count-ends : (w : Walk) (n : ℕ) → Counting d₀ d₁ h₀ h₁ w n → max-blocks ≤ w .low
+      → (n ≡ count-of (both d₀ d₁) 0 max-blocks) × (n ≤ max-blocks)
+  count-ends w n c l =
+      let all = c .count in
+      let none = none-left (both d₀ d₁) (w .low) l .1 in
+      (omega arith, omega (arith, c .few))
 
-    begin₁ : On d₁ (h₁ .n) 0 b
-    begin₁ = on-begins d₁ (h₁ .n) b (at₁ .0) (at₁ .1)
+-- ---- writing
 
-    pub count-begins : Counting d₀ d₁ h₀ h₁ a b low 0
-    count-begins = record { walk = walk-to 0 low a b begin₀ begin₁ e; count = omega (arith, gap 0 low a b begin₀ begin₁ e .count) }
+module _ (d₀ d₁ : List ℕ) (h₀ h₁ : Head) where
+  pub write-begins : (w : Walk) (out : List ℕ) → Begun d₀ d₁ h₀ h₁ w → head-size + record-size * count-of (both d₀ d₁) 0 max-blocks ≤ length out
+      → Writing d₀ d₁ h₀ h₁ out out w head-size
+  write-begins w out b room = record {
+    walking = b .walking;
+    same = refl;
+    room = rw (b .same .count) at room;
+    few = omega (arith, b .same .count, count-le (both d₀ d₁) 0 max-blocks);
+    left = ap (λ (x : List ℕ). put head-size x out) (sym (b .same .records));
+  }
 
-    pub write-begins : (out : List ℕ) → head-size + record-size * count-of (both d₀ d₁) 0 max-blocks ≤ length out → Writing d₀ d₁ h₀ h₁ out out a b low head-size
-    write-begins out room =
-        let same = gap 0 low a b begin₀ begin₁ e in
-        record {
-          walk = walk-to 0 low a b begin₀ begin₁ e;
-          same = refl;
-          room = rw (same .count) at room;
-          left = ap (λ (x : List ℕ). put head-size x out) (sym (same .records));
-        }
+  pub write-goes-on : (w r : Walk) (old out y : List ℕ) (at : ℕ) → Passed d₀ d₁ h₀ h₁ → Writing d₀ d₁ h₀ h₁ old out w at → Turned d₀ d₁ h₀ h₁ w r
+      → y ≡ record-for (w .low) (both d₀ d₁ (w .low)) ++ drop record-size (take (length out - at) (drop at out))
+      → Writing d₀ d₁ h₀ h₁ old (putMid at (length out - at) out y) r (at + record-size)
+  write-goes-on w r old out y at p c turned f =
+      let t = turned .takes in
+      let fits = both-fits d₀ d₁ h₀ h₁ p in
+      let x = record-bytes (w .low) (t .content) in
+      let n : length x ≡ record-size = record-length (w .low) (t .content) (fits .whole (w .low) (t .content) (t .named)) in
+      let m = records-length fits (r .low) (max-blocks - r .low) in
+      let room = c .room in
+      let few = t .count in
+      let same = c .same in
+      let now = put-part at record-size x y out n (rw (t .named) at f) in
+      let long = put-length at x out (omega arith) in
+      let two = put-put at x (records-left (both d₀ d₁) (r .low)) out (omega arith) in
+      record {
+        walking = turned .walking;
+        same = rw now (omega arith);
+        room = rw now (omega arith);
+        few = omega (arith, c .few);
+        left = rw (now, ← n, two, ← t .records) (c .left);
+      }
 
-  -- ---- a turn, which goes past the address on both diffs
+  -- where a record is left, there is room for it
+  pub write-room : (w : Walk) (old out : List ℕ) (at : ℕ) → Passed d₀ d₁ h₀ h₁ → Writing d₀ d₁ h₀ h₁ old out w at → w .low < max-blocks → at + record-size ≤ length out
+  write-room w old out at p c l = omega (arith, c .room, walk-takes d₀ d₁ h₀ h₁ p w (c .walking) l .count)
 
-  module _ (a b a′ b′ : Cursor) (low low′ : ℕ) (on₀ : On d₀ (h₀ .n) (low + 1) a′) (on₁ : On d₁ (h₁ .n) (low + 1) b′) (e : low′ ≡ min (a′ .address) (b′ .address)) where
-    turn : Walk d₀ d₁ h₀ h₁ a b low → low < max-blocks → Takes (both d₀ d₁) low low′
-    turn w l = takes-then (both d₀ d₁) low (low + 1) low′ (walk-takes a b low w l) (gap (low + 1) low′ a′ b′ on₀ on₁ e)
-
-    pub count-goes-on : (n : ℕ) → Counting d₀ d₁ h₀ h₁ a b low n → low < max-blocks → Counting d₀ d₁ h₀ h₁ a′ b′ low′ (n + 1)
-    count-goes-on n c l = record { walk = walk-to (low + 1) low′ a′ b′ on₀ on₁ e; count = omega (arith, c .count, turn (c .walk) l .count) }
-
-    pub write-goes-on : (old out y : List ℕ) (at : ℕ) → Writing d₀ d₁ h₀ h₁ old out a b low at → low < max-blocks
-        → y ≡ record-for low (both d₀ d₁ low) ++ drop record-size (take (length out - at) (drop at out))
-        → Writing d₀ d₁ h₀ h₁ old (putMid at (length out - at) out y) a′ b′ low′ (at + record-size)
-    write-goes-on old out y at c l f =
-        let t = turn (c .walk) l in
-        let x = record-bytes low (t .content) in
-        let n : length x ≡ record-size = record-length low (t .content) (both-fits .whole low (t .content) (t .named)) in
-        let m = records-length both-fits low′ (max-blocks - low′) in
-        let room = c .room in
-        let few = t .count in
-        let same = c .same in
-        let now = put-part at record-size x y out n (rw (t .named) at f) in
-        let long = put-length at x out (omega arith) in
-        let two = put-put at x (records-left (both d₀ d₁) low′) out (omega arith) in
-        record {
-          walk = walk-to (low + 1) low′ a′ b′ on₀ on₁ e;
-          same = rw now (omega arith);
-          room = rw now (omega arith);
-          left = rw (now, ← n, two, ← t .records) (c .left);
-        }
-
-  -- ---- the end of a walk
-
-  pub count-ends : (a b : Cursor) (low n : ℕ) → Counting d₀ d₁ h₀ h₁ a b low n → max-blocks ≤ low → n ≡ count-of (both d₀ d₁) 0 max-blocks
-  count-ends a b low n c l = omega (arith, c .count, none-left (both d₀ d₁) low l .1)
-
-  pub write-ends : (old out : List ℕ) (a b : Cursor) (low at : ℕ) → Writing d₀ d₁ h₀ h₁ old out a b low at → max-blocks ≤ low
+  pub write-ends : (w : Walk) (old out : List ℕ) (at : ℕ) → Writing d₀ d₁ h₀ h₁ old out w at → max-blocks ≤ w .low
       → out ≡ put head-size (records-of (both d₀ d₁) 0 max-blocks) old
-  write-ends old out a b low at c l = sym (put-nothing at out) ∙ (rw (none-left (both d₀ d₁) low l .0) at (c .left))
+  write-ends w old out at c l = sym (put-nothing at out) ∙ (rw (none-left (both d₀ d₁) (w .low) l .0) at (c .left))

@@ -15,7 +15,8 @@ ghost use Rattle.paper.specs.Merge.{merge};
 ghost use Rattle.number.specs.Put.{put};
 ghost use Rattle.record.specs.Heads.{head};
 ghost use Rattle.record.specs.States.{said-length};
-ghost use Rattle.merge.specs.Walks.{Passed, both, address-at, On, Walk};
+ghost use Rattle.merge.specs.Walks.{Passed, both, address-at, On, Walking, Begun, Turned};
+ghost use Rattle.merge.specs.Gives.{Gives};
 
 // "A merge checks first diff, second diff, 15, 16, 17." The result goes to `out`, and its length is answered.
 pub fn merge(first: &[u8], second: &[u8], out: &mut [u8]) -> Written
@@ -32,8 +33,7 @@ pub fn merge(first: &[u8], second: &[u8], out: &mut [u8]) -> Written
 // The rest of a merge, where the first diff has passed with head h0.
 fn merge_second(first: &[u8], second: &[u8], h0: Head, out: &mut [u8]) -> Written
     requires { ⌜ check (now first) ≡ answer (head h0) ⌝ }
-    ensures { λ r. ⌜ said-length r ≡ comes-back (merge (now (first .entry)) (now (second .entry)) (length (now (out .entry)))) ⌝ }
-    ensures { λ _. ⌜ now (out .exit) ≡ over (now (out .entry)) (merge (now (first .entry)) (now (second .entry)) (length (now (out .entry)))) ⌝ }
+    ensures { λ r. ⌜ Gives (now (out .entry)) (merge (now (first .entry)) (now (second .entry)) (length (now (out .entry)))) (said-length r) (now (out .exit)) ⌝ }
 {
     let said = diff::check(second);
     match said {
@@ -45,8 +45,7 @@ fn merge_second(first: &[u8], second: &[u8], h0: Head, out: &mut [u8]) -> Writte
 // The rest of a merge, where both diffs have passed. Nothing is written before every check has passed.
 fn merge_sound(first: &[u8], second: &[u8], h0: Head, h1: Head, out: &mut [u8]) -> Written
     requires { ⌜ Passed (now first) (now second) (head h0) (head h1) ⌝ }
-    ensures { λ r. ⌜ said-length r ≡ comes-back (merge (now (first .entry)) (now (second .entry)) (length (now (out .entry)))) ⌝ }
-    ensures { λ _. ⌜ now (out .exit) ≡ over (now (out .entry)) (merge (now (first .entry)) (now (second .entry)) (length (now (out .entry)))) ⌝ }
+    ensures { λ r. ⌜ Gives (now (out .entry)) (merge (now (first .entry)) (now (second .entry)) (length (now (out .entry)))) (said-length r) (now (out .exit)) ⌝ }
 {
     if h0.kind == 1 {
         return Written::No(Refusal::Compared);
@@ -119,19 +118,51 @@ fn lower(x: u32, y: u32) -> u32
     y
 }
 
-// The number of blocks that either diff names: both are walked over by address, and an address that both name counts once.
+// A cursor on each diff, and the lower of their addresses; END where both are past the last record.
+struct Walk {
+    a: Cursor,
+    b: Cursor,
+    low: u32,
+}
+
+// The walk over both diffs, at its first address.
+fn begin(first: &[u8], second: &[u8], h0: Head, h1: Head) -> Walk
+    requires { ⌜ Passed (now first) (now second) (head h0) (head h1) ⌝ }
+    ensures { λ r. ⌜ Begun (now (first .entry)) (now (second .entry)) (head h0) (head h1) r ⌝ }
+{
+    let a = cursor_at(first, h0, 0);
+    let b = cursor_at(second, h1, 0);
+    Walk {
+        a,
+        b,
+        low: lower(a.address, b.address),
+    }
+}
+
+// The walk past its address: where both diffs name it, both go on.
+fn turn(first: &[u8], second: &[u8], h0: Head, h1: Head, w: Walk) -> Walk
+    requires { ⌜ Passed (now first) (now second) (head h0) (head h1) ⌝ }
+    requires { ⌜ Walking (now first) (now second) (head h0) (head h1) w × (w .low < 65536) ⌝ }
+    ensures { λ r. ⌜ Turned (now (first .entry)) (now (second .entry)) (head h0) (head h1) w r ⌝ }
+{
+    let a = past(first, h0, w.a, w.low);
+    let b = past(second, h1, w.b, w.low);
+    Walk {
+        a,
+        b,
+        low: lower(a.address, b.address),
+    }
+}
+
+// The number of blocks that either diff names.
 fn count_records(first: &[u8], second: &[u8], h0: Head, h1: Head) -> usize
     requires { ⌜ Passed (now first) (now second) (head h0) (head h1) ⌝ }
-    ensures { λ r. ⌜ r ≡ count-of (both (now (first .entry)) (now (second .entry))) 0 65536 ⌝ }
+    ensures { λ r. ⌜ (r ≡ count-of (both (now (first .entry)) (now (second .entry))) 0 65536) × (r ≤ 65536) ⌝ }
 {
-    let mut a = cursor_at(first, h0, 0);
-    let mut b = cursor_at(second, h1, 0);
-    let mut low = lower(a.address, b.address);
+    let mut w = begin(first, second, h0, h1);
     let mut n: usize = 0;
-    while low < END {
-        a = past(first, h0, a, low);
-        b = past(second, h1, b, low);
-        low = lower(a.address, b.address);
+    while w.low < END {
+        w = turn(first, second, h0, h1, w);
         n += 1;
     }
     n
@@ -147,25 +178,16 @@ fn put_record(d: &[u8], h: Head, i: usize, out: &mut [u8])
     number::copy_record(out, &d[at..])
 }
 
-// Puts the record of block `low` where `out` opens: "the second diff's block where it names one, else the first's".
-fn put_lowest(
-    first: &[u8],
-    second: &[u8],
-    h0: Head,
-    h1: Head,
-    a: Cursor,
-    b: Cursor,
-    low: u32,
-    out: &mut [u8],
-)
+// Puts the record of the walk's address where `out` opens: "the second diff's block where it names one, else the first's".
+fn put_lowest(first: &[u8], second: &[u8], h0: Head, h1: Head, w: Walk, out: &mut [u8])
     requires { ⌜ Passed (now first) (now second) (head h0) (head h1) ⌝ }
-    requires { ⌜ Walk (now first) (now second) (head h0) (head h1) a b low × (low < 65536) × (518 ≤ length (now out)) ⌝ }
-    ensures { λ _. ⌜ now (out .exit) ≡ record-for low (both (now (first .entry)) (now (second .entry)) low) ++ drop 518 (now (out .entry)) ⌝ }
+    requires { ⌜ Walking (now first) (now second) (head h0) (head h1) w × (w .low < 65536) × (518 ≤ length (now out)) ⌝ }
+    ensures { λ _. ⌜ now (out .exit) ≡ record-for (w .low) (both (now (first .entry)) (now (second .entry)) (w .low)) ++ drop 518 (now (out .entry)) ⌝ }
 {
-    if b.address > low {
-        put_record(first, h0, a.place, out)
+    if w.b.address > w.low {
+        put_record(first, h0, w.a.place, out)
     } else {
-        put_record(second, h1, b.place, out)
+        put_record(second, h1, w.b.place, out)
     }
 }
 
@@ -175,15 +197,11 @@ fn write_records(first: &[u8], second: &[u8], h0: Head, h1: Head, out: &mut [u8]
     requires { ⌜ 24 + 518 * count-of (both (now first) (now second)) 0 65536 ≤ length (now out) ⌝ }
     ensures { λ _. ⌜ now (out .exit) ≡ put 24 (records-of (both (now (first .entry)) (now (second .entry))) 0 65536) (now (out .entry)) ⌝ }
 {
-    let mut a = cursor_at(first, h0, 0);
-    let mut b = cursor_at(second, h1, 0);
-    let mut low = lower(a.address, b.address);
+    let mut w = begin(first, second, h0, h1);
     let mut at: usize = Head::SIZE;
-    while low < END {
-        put_lowest(first, second, h0, h1, a, b, low, &mut out[at..]);
-        a = past(first, h0, a, low);
-        b = past(second, h1, b, low);
-        low = lower(a.address, b.address);
+    while w.low < END {
+        put_lowest(first, second, h0, h1, w, &mut out[at..]);
+        w = turn(first, second, h0, h1, w);
         at += Block::SIZE;
     }
 }

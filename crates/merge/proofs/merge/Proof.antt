@@ -19,13 +19,13 @@ merge-second-requires : tie.Need-merge-second-requires
 merge-second-requires c κs = sym (c .before .before .before .before .check .ensures) ∙ ap said-head (c .before .before .said2 .given .1)
 
 returns : tie.Need-returns
-returns c = first-no _ _ _ _ (sym (c .before .before .before .check .ensures) ∙ ap said-head (c .before .said .given .1))
+returns c = let no = first-no _ _ _ _ (sym (c .before .before .before .check .ensures) ∙ ap said-head (c .before .said .given .1)) in (no .answered, no .leaves)
 
 same-length : tie.Need-same-length
 same-length c = search needs
 
 returns-2 : tie.Need-returns-2
-returns-2 c = search needs
+returns-2 c = let rest = c .before .before .merge-second .ensures in (rest .answered, rest .leaves)
 
 pub merge-spec : {M : Type 1} → statement M
 merge-spec =

@@ -1,58 +1,41 @@
 -- One check after another in 01's order; where none refuses, the head and then the records are put, and nothing before.
 use native.Mathlib.Omega.{arith}
-use Rattle.paper.proofs.Meaning.{count-le}
 use Rattle.record.specs.Heads.{head}
-use Rattle.merge.specs.Walks.{both}
 use Rattle.merge.proofs.Answers.{compared-first, compared-second, apart, no-room, all-written}
 use borrow.Author.Needs.{needs}
 use Rattle.merge.proofs.merge_sound.Statement.{statement}
 use Rattle.merge.proofs.merge_sound.Tie as tie
 
 returns : tie.Need-returns
-returns c =
-    let start = c .before .before .before .before .before in
-    compared-first _ _ _ (head (start .args .h0)) (head (start .args .h1)) (start .pre) (c .if1 .taken)
+returns c = search compared-first
 
 returns-2 : tie.Need-returns-2
-returns-2 c =
-    let start = c .before .before .before .before .before .before .before in
-    compared-second _ _ _ (head (start .args .h0)) (head (start .args .h1)) (start .pre) (c .before .before .if1 .left) (c .if2 .taken)
+returns-2 c = search compared-second
 
 returns-3 : tie.Need-returns-3
-returns-3 c =
-    let start = c .before .before .before .before .before .before .before .before .before .before in
-    apart _ _ _ (head (start .args .h0)) (head (start .args .h1)) (start .pre) (c .before .before .before .before .before .if1 .left) (c .before .before .before .if2 .left) (c .if3 .taken)
+returns-3 c = search apart
 
 count-records-requires : tie.Need-count-records-requires
 count-records-requires c κs = c .before .before .before .before .before .before .before .before .before .before .pre
 
 mul-size : tie.Need-mul-size
-mul-size c =
-    let args = c .before .before .before .before .before .before .before .before .before .before .before .args in
-    omega (arith, c .count-records .ensures, count-le (both (args .first .now) (args .second .now)) 0 65536)
+mul-size c = search needs
 
 add-size : tie.Need-add-size
-add-size c =
-    let args = c .before .before .before .before .before .before .before .before .before .before .before .args in
-    omega (arith, c .count-records .ensures, count-le (both (args .first .now) (args .second .now)) 0 65536)
+add-size c = search needs
 
 returns-4 : tie.Need-returns-4
-returns-4 c =
-    let start = c .before .before .before .before .before .before .before .before .before .before .before .before in
-    no-room _ _ _ (head (start .args .h0)) (head (start .args .h1)) (start .pre) (c .before .before .before .before .before .before .before .if1 .left) (c .before .before .before .before .before .if2 .left) (c .before .before .if3 .left) _ (c .before .count-records .ensures)
-    (c .if4 .taken)
+returns-4 c = search no-room
 
 cast-t15 : tie.Need-cast-t15
-cast-t15 c =
-    let args = c .before .before .before .before .before .before .before .before .before .before .before .before .args in
-    omega (arith, c .before .count-records .ensures, count-le (both (args .first .now) (args .second .now)) 0 65536)
+cast-t15 c = search needs
 
 write-requires : tie.Need-write-requires
-write-requires c κs = omega (arith, c .before .if4 .left)
+write-requires c κs = search needs
 
 write-records-requires : tie.Need-write-records-requires
 write-records-requires c κs =
-    (c .before .before .before .before .before .before .before .before .before .before .before .before .before .before .before .before .before .pre, omega (arith, c .before .before .before .before .before .if4 .left, c .before .before .before .write .kept .1 .0, c .before .before .before .before .before .before .count-records .ensures))
+    (c .before .before .before .before .before .before .before .before .before .before .before .before .before .before .before .before .before .pre, omega (arith, c .before .before .before .before .before .if4 .left, c .before .before .before .write .kept .1 .0, c .before .before .before .before .before .before .count-records .ensures .0))
 
 same-length : tie.Need-same-length
 same-length c = omega (arith, c .before .before .before .before .before .before .write .kept .1 .0, c .before .before .write-records .kept .1 .1 .1 .1 .0)
@@ -60,7 +43,7 @@ same-length c = omega (arith, c .before .before .before .before .before .before 
 returns-5 : tie.Need-returns-5
 returns-5 c =
     let start = c .before .before .before .before .before .before .before .before .before .before .before .before .before .before .before .before .before .before .before .before in
-    all-written _ _ _ (head (start .args .h0)) (head (start .args .h1)) (start .pre) (c .before .before .before .before .before .before .before .before .before .before .before .before .before .before .before .if1 .left) (c .before .before .before .before .before .before .before .before .before .before .before .before .before .if2 .left) (c .before .before .before .before .before .before .before .before .before .before .if3 .left) _ (c .before .before .before .before .before .before .before .before .before .count-records .ensures) _ _
+    all-written _ _ _ (head (start .args .h0)) (head (start .args .h1)) (start .pre) (c .before .before .before .before .before .before .before .before .before .before .before .before .before .before .before .if1 .left) (c .before .before .before .before .before .before .before .before .before .before .before .before .before .if2 .left) (c .before .before .before .before .before .before .before .before .before .before .if3 .left) _ (c .before .before .before .before .before .before .before .before .before .count-records .ensures .0) _ _
     (c .before .before .before .before .before .before .before .before .if4 .left) (c .before .before .before .before .before .before .write .ensures) (c .before .before .write-records .ensures)
 
 pub merge-sound-spec : {M : Type 1} → statement M

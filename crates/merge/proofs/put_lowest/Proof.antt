@@ -27,7 +27,7 @@ returns : tie.Need-returns
 returns c =
     let at = c .before .before .before .before .before .before .before .before .before in
     let higher = c .before .before .before .before .if1 .taken in
-    rw (record-first (sound (at .pre .0 .first)) (sound (at .pre .0 .second)) _ _ _ (at .pre .1 .0) higher)
+    rw (record-first (sound (at .pre .0 .first)) (sound (at .pre .0 .second)) _ (at .pre .1 .0) higher)
     (c .before .before .put-record .ensures)
 
 same-length-2 : tie.Need-same-length-2
@@ -37,7 +37,7 @@ returns-2 : tie.Need-returns-2
 returns-2 c =
     let at = c .before .before .before .before .before .before .before .before .before in
     let here = c .before .before .before .before .if1 .left in
-    rw (record-second (sound (at .pre .0 .first)) (sound (at .pre .0 .second)) _ _ _ (at .pre .1 .0) (at .pre .1 .1) here)
+    rw (record-second (sound (at .pre .0 .first)) (sound (at .pre .0 .second)) _ (at .pre .1 .0) (at .pre .1 .1) here)
     (c .before .before .put-record2 .ensures)
 
 pub put-lowest-spec : {M : Type 1} → statement M
