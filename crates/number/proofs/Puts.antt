@@ -42,9 +42,6 @@ copy-more src dst i h k =
     rw (add-one, drop-cons dst i 0, take-suc src i 0, set-at (take i src) (getD dst i 0) (drop (suc i) dst) (getD src i 0) i (length-take-le i src (omega arith)))
     (sym (append-assoc (take i src) (getD src i 0 ∷ []) (drop (suc i) dst)))
 
-pub copy-length : (src dst : List ℕ) (i : ℕ) → i ≤ length src → i ≤ length dst → length (take i src ++ drop i dst) ≡ length dst
-copy-length src dst i h k = simp (length-append, length-take, length-drop) (omega arith)
-
 -- the bytes of a number in two halves
 pub spelled-8 : (x : ℕ) → spelled 4 (x % 4294967296) ++ spelled 4 (x / 4294967296) ≡ spelled 8 x
 unfolding spelled

@@ -56,16 +56,32 @@ pub fn write_u64(s: &mut [u8], at: usize, x: u64)
     write_u32(s, at + 4, (x / 0x1_0000_0000) as u32);
 }
 
+// Copies the first n bytes of src over those of dst.
+fn copy(dst: &mut [u8], src: &[u8], n: usize)
+    requires { ⌜ (n ≤ length (now dst)) × (n ≤ length (now src)) ⌝ }
+    ensures { λ _. ⌜ now (dst .exit) ≡ take n (now (src .entry)) ++ drop n (now (dst .entry)) ⌝ }
+{
+    let mut i: usize = 0;
+    while i < n {
+        dst[i] = src[i];
+        i += 1;
+    }
+}
+
 // Copies a block: the first 512 bytes of src over those of dst.
 pub fn copy_block(dst: &mut [u8], src: &[u8])
     requires { ⌜ (512 ≤ length (now dst)) × (512 ≤ length (now src)) ⌝ }
     ensures { λ _. ⌜ now (dst .exit) ≡ take 512 (now (src .entry)) ++ drop 512 (now (dst .entry)) ⌝ }
 {
-    let mut i: usize = 0;
-    while i < 512 {
-        dst[i] = src[i];
-        i += 1;
-    }
+    copy(dst, src, 512)
+}
+
+// Copies a block's record: the first 518 bytes of src over those of dst.
+pub fn copy_record(dst: &mut [u8], src: &[u8])
+    requires { ⌜ (518 ≤ length (now dst)) × (518 ≤ length (now src)) ⌝ }
+    ensures { λ _. ⌜ now (dst .exit) ≡ take 518 (now (src .entry)) ++ drop 518 (now (dst .entry)) ⌝ }
+{
+    copy(dst, src, 518)
 }
 
 // Whether two blocks, the first 512 bytes of a and of b, are the same.
