@@ -1,6 +1,7 @@
 // 01's night book, and further rows beside it: each prints what was asked and what was answered. The expected answers in `stdout` are worked out from 01.
 mod decisions;
 mod make;
+mod merges;
 mod print;
 mod volumes;
 
@@ -12,4 +13,8 @@ fn main() {
     volumes::runs_at_the_end();
     volumes::run_outside();
     volumes::views();
+    merges::merges();
+    merges::merge_edges();
+    merges::merge_ends();
+    merges::compares();
 }
