@@ -17,4 +17,6 @@ fn main() {
     merges::merge_edges();
     merges::merge_ends();
     merges::compares();
+    merges::odd_compares();
+    merges::ragged_compare();
 }

@@ -65,18 +65,54 @@ pub fn merges() {
 }
 
 pub fn merge_edges() {
-    merged(b"merge of empty diffs", &make::head(0, 5, 9), &make::head(0, 9, 12));
-    merged(b"merge into an empty one", &make::head(0, 5, 9), &make::one(0, 9, 12, 7, 69));
-    merged(b"merge of an empty one", &make::one(0, 5, 9, 7, 69), &make::head(0, 9, 12));
-    merged(b"merge, all common", &make::two(5, 9, 1, 65, 3, 66), &make::two(9, 12, 1, 70, 3, 71));
-    merged(b"merge, back to the old content", &make::one(0, 5, 9, 1, 65), &make::one(0, 9, 12, 1, 65));
+    merged(
+        b"merge of empty diffs",
+        &make::head(0, 5, 9),
+        &make::head(0, 9, 12),
+    );
+    merged(
+        b"merge into an empty one",
+        &make::head(0, 5, 9),
+        &make::one(0, 9, 12, 7, 69),
+    );
+    merged(
+        b"merge of an empty one",
+        &make::one(0, 5, 9, 7, 69),
+        &make::head(0, 9, 12),
+    );
+    merged(
+        b"merge, all common",
+        &make::two(5, 9, 1, 65, 3, 66),
+        &make::two(9, 12, 1, 70, 3, 71),
+    );
+    merged(
+        b"merge, back to the old content",
+        &make::one(0, 5, 9, 1, 65),
+        &make::one(0, 9, 12, 1, 65),
+    );
 }
 
 pub fn merge_ends() {
-    merged(b"merge of the first and the last address", &make::one(0, 5, 9, 65_535, 65), &make::one(0, 9, 12, 0, 66));
-    merged(b"merge with a compared diff", &make::one(0, 5, 9, 1, 65), &make::one(1, 9, 12, 1, 66));
-    merged(b"merge of a compared diff", &make::one(1, 5, 9, 1, 65), &make::one(0, 9, 12, 1, 66));
-    merged(b"merge of diffs that overlap", &make::one(0, 5, 9, 1, 65), &make::one(0, 8, 12, 1, 66));
+    merged(
+        b"merge of the first and the last address",
+        &make::one(0, 5, 9, 65_535, 65),
+        &make::one(0, 9, 12, 0, 66),
+    );
+    merged(
+        b"merge with a compared diff",
+        &make::one(0, 5, 9, 1, 65),
+        &make::one(1, 9, 12, 1, 66),
+    );
+    merged(
+        b"merge of a compared diff",
+        &make::one(1, 5, 9, 1, 65),
+        &make::one(0, 9, 12, 1, 66),
+    );
+    merged(
+        b"merge of diffs that overlap",
+        &make::one(0, 5, 9, 1, 65),
+        &make::one(0, 8, 12, 1, 66),
+    );
 }
 
 // Compares an image of three blocks of ones with one that differs in two blocks.
@@ -105,10 +141,20 @@ pub fn compares() {
     compared(b"compare, none differs", 5, 9, 1, 1);
     compared(b"compare, p = q", 9, 9, 7, 9);
     compared(b"compare, equal images and p = q", 9, 9, 1, 1);
+}
+
+pub fn odd_compares() {
     let a = [1u8; 512];
-    let b = [2u8; 1024];
-    odd(b"compare 512 with 512 bytes alike", &a, &a);
-    odd(b"compare 512 with 512 bytes unlike", &a, &b[0..512]);
-    odd(b"compare 512 with 1,024 bytes", &a, &b);
-    odd(b"compare 511 with 511 bytes", &a[0..511], &a[0..511]);
+    let alike = [1u8; 512];
+    let unlike = [2u8; 512];
+    let longer = [1u8; 1024];
+    odd(b"compare 512 with 512 bytes alike", &a, &alike);
+    odd(b"compare 512 with 512 bytes unlike", &a, &unlike);
+    odd(b"compare 512 with 1,024 bytes", &a, &longer);
+}
+
+pub fn ragged_compare() {
+    let a = [1u8; 511];
+    let b = [1u8; 511];
+    odd(b"compare 511 with 511 bytes", &a, &b);
 }

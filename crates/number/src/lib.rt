@@ -84,17 +84,20 @@ pub fn copy_record(dst: &mut [u8], src: &[u8])
     copy(dst, src, 518)
 }
 
-// Whether two blocks, the first 512 bytes of a and of b, are the same.
+// Whether two blocks, the first 512 bytes of a and of b, are the same. All bytes are looked at, so that many are compared at a time.
 pub fn same_block(a: &[u8], b: &[u8]) -> bool
     requires { ⌜ (512 ≤ length (now a)) × (512 ≤ length (now b)) ⌝ }
     ensures { λ r. ⌜ r ≡ same (take 512 (now (a .entry))) (take 512 (now (b .entry))) ⌝ }
 {
+    let mut differ = false;
     let mut i: usize = 0;
     while i < 512 {
         if a[i] != b[i] {
-            return false;
+            differ = true;
+            i += 1;
+        } else {
+            i += 1;
         }
-        i += 1;
     }
-    true
+    !differ
 }

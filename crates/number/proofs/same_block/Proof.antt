@@ -1,9 +1,7 @@
-use Rattle.number.proofs.Blocks.{same-on, same-stops, same-ends}
-use Prim.Native.Nat.{_≤_, _-_}
-use mathlib.Core.Path.{_≡_, sym, _∙_}
+-- `number::same_block` meets its contract: a byte that differs makes the blocks unlike, and one that is the same leaves the rest to decide.
+use Prim.Native.Nat.{_-_}
 use native.Mathlib.Omega.{arith}
-use lib.ListN.{take, drop}
-use Rattle.paper.specs.Image.{same}
+use Rattle.number.proofs.Blocks.{Comparing, compare-begins, compare-differs, compare-on, compare-ends}
 use borrow.Author.Needs.{needs}
 use Rattle.number.proofs.same_block.Statement.{statement}
 use Rattle.number.proofs.same_block.Tie as tie
@@ -11,48 +9,44 @@ use Rattle.number.proofs.same_block.Reads as reads
 use Rattle.number.proofs.same_block.Lts as lts
 
 abbrev Inv-loop : tie.InvT-loop
-Inv-loop a b i₀ i = (i ≤ 512) × (same (take 512 a) (take 512 b) ≡ same (take (512 - i) (drop i a)) (take (512 - i) (drop i b)))
+Inv-loop a b differ₀ i₀ differ i = Comparing a b differ i
 
 abbrev μ-loop : tie.MeasureT-loop
-μ-loop a b i₀ i = 512 - i
+μ-loop a b differ₀ i₀ differ i = 512 - i
 
--- src/lib.rt:77:5
 loop-holds : tie.Need-loop-holds Inv-loop μ-loop
-loop-holds c = search needs
+loop-holds c = compare-begins _ _
 
--- src/lib.rt:78:12
 shared-slice-read-if1 : tie.Need-shared-slice-read-if1 Inv-loop μ-loop
 shared-slice-read-if1 c = search needs
 
--- src/lib.rt:78:20
 shared-slice-read-if1-2 : tie.Need-shared-slice-read-if1-2 Inv-loop μ-loop
 shared-slice-read-if1-2 c = search needs
 
--- src/lib.rt:79:13
-returns : tie.Need-returns Inv-loop μ-loop
-returns c =
-    let at = c .before .before .before .before .loop in
-    let args = c .before .before .before .before .before .args in
-    sym (at .inv .1 ∙ same-stops (args .a .now) (args .b .now) (at .i) (omega arith) (omega arith) (omega arith) (c .if1 .taken))
-
--- src/lib.rt:81:9
 add-i : tie.Need-add-i Inv-loop μ-loop
 add-i c = search needs
 
--- src/lib.rt:77:5
 loop-less : tie.Need-loop-less Inv-loop μ-loop
 loop-less c = search needs
 
--- src/lib.rt:77:5
 loop-again : tie.Need-loop-again Inv-loop μ-loop
 loop-again c =
     let at = c .before .before .before .before .loop in
-    let args = c .before .before .before .before .before .args in
-    (omega arith, at .inv .1 ∙ same-on (args .a .now) (args .b .now) (at .i) (omega arith) (omega arith) (omega arith) (c .if1 .left))
+    compare-differs _ _ _ (at .i) (at .inv) (omega arith) (omega arith) (omega arith) (c .if1 .taken)
 
--- src/lib.rt:72:1
-returns-2 : tie.Need-returns-2 Inv-loop μ-loop
-returns-2 c = let e : c .before .loop .i ≡ 512 = omega arith in sym (c .before .loop .inv .1 ∙ same-ends _ _ _ e)
+add-i-2 : tie.Need-add-i-2 Inv-loop μ-loop
+add-i-2 c = search needs
+
+loop-less-2 : tie.Need-loop-less-2 Inv-loop μ-loop
+loop-less-2 c = search needs
+
+loop-again-2 : tie.Need-loop-again-2 Inv-loop μ-loop
+loop-again-2 c =
+    let at = c .before .before .before .before .loop in
+    compare-on _ _ _ (at .i) (at .inv) (omega arith) (omega arith) (omega arith) (c .if1 .left)
+
+returns : tie.Need-returns Inv-loop μ-loop
+returns c = search compare-ends
 
 pub same-block-spec : {M : Type 1} → statement M
 same-block-spec =
@@ -63,8 +57,10 @@ same-block-spec =
     loop-holds
     shared-slice-read-if1
     shared-slice-read-if1-2
-    returns
     add-i
     loop-less
     loop-again
-    returns-2)
+    add-i-2
+    loop-less-2
+    loop-again-2
+    returns)
