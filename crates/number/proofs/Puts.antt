@@ -1,10 +1,11 @@
 -- Bytes stored one after another are bytes put at a place.
 use Prim.Native.Nat.{ℕ, zero, suc, _+_, _/_, _%_, _≤_, _<_}
 use mathlib.Core.Path.{_≡_, refl, sym, ap, ap₂, _∙_}
-use mathlib.Core.List.{List, [], _∷_, _++_, append-assoc}
+use mathlib.Core.List.{List, [], _∷_, _++_, append-assoc, append-nil}
 use native.Mathlib.Numerals.{add-one, towards-suc}
+use native.Mathlib.Nat.{add-zero}
 use native.Mathlib.Omega.{arith}
-use lib.ListN.{length, getD, take, drop, set, length-append, length-take, length-drop}
+use lib.ListN.{length, getD, take, drop, set, length-append, length-take, length-drop, take-append-drop}
 use lib.Seq.{drop-cons, take-suc, set-at, sets, sets-eq, take-at, drop-at, drop-drop, drop-append-le, length-take-le}
 use Rattle.paper.specs.Number.{spelled}
 use Rattle.paper.proofs.Numbers.{spelled-length}
@@ -13,6 +14,11 @@ use Rattle.number.specs.Put.{put}
 pub put-length : (k : ℕ) (bytes old : List ℕ) → k + length bytes ≤ length old → length (put k bytes old) ≡ length old
 unfolding put
 put-length k bytes old h = simp (length-append, length-take, length-drop) (omega arith)
+
+-- nothing put changes nothing
+pub put-nothing : (k : ℕ) (old : List ℕ) → put k [] old ≡ old
+unfolding put
+put-nothing k old = simp (append-nil, add-zero) (take-append-drop k old)
 
 -- four stores
 pub put-4 : (s : List ℕ) (k a b c d : ℕ) → k + 4 ≤ length s → set (set (set (set s k a) (k + 1) b) (k + 2) c) (k + 3) d ≡ put k (a ∷ b ∷ c ∷ d ∷ []) s
