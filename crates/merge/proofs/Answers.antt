@@ -1,6 +1,6 @@
 -- What a merge answers, case by case: the check of the first diff, of the second, then 15, 16 and 17; else the head and the records are written.
 use Prim.Native.Nat.{ℕ, _+_, _*_, _≤_, _<_}
-use mathlib.Core.Path.{_≡_, refl, sym, ap, _∙_}
+use mathlib.Core.Path.{_≡_, sym, ap, _∙_}
 use mathlib.Core.List.{List, _++_}
 use native.Mathlib.Omega.{arith}
 use lib.ListN.{length}
@@ -12,7 +12,7 @@ use Rattle.paper.specs.Merge.{merge-heads, merge}
 use Rattle.paper.proofs.Answers.{wrote, output-fits}
 use Rattle.paper.proofs.Parts.{head-length}
 use Rattle.paper.proofs.Meaning.{records-length, written-length}
-use Rattle.paper.proofs.Merging.{Touching, touching-merges}
+use Rattle.paper.proofs.Merging.{touching-merges}
 use Rattle.number.specs.Put.{put}
 use Rattle.record.proofs.Stores.{put-next}
 use Rattle.record.proofs.StateLaws.{put-first}

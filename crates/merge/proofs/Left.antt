@@ -8,7 +8,7 @@ use native.Mathlib.Numerals.{add-one}
 use native.Mathlib.Nat.{add-zero}
 use Rattle.paper.specs.Limits.{max-blocks}
 use Rattle.paper.specs.Image.{Map}
-use Rattle.paper.proofs.Meaning.{Next, skips, takes, next, records-zero, count-zero}
+use Rattle.paper.proofs.Meaning.{skips, takes, next, records-zero, count-zero}
 use Rattle.merge.specs.Walks.{records-left, count-left, Same-left, Takes}
 
 -- k addresses that are not named

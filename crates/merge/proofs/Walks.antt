@@ -1,12 +1,11 @@
 -- Two cursors walk over the addresses together, always to the lower of their two: between two turns nothing is named,
 -- and each turn takes one record of the merge. So what is counted, or written, and what is left are the whole at every turn.
-use Prim.Native.Nat.{ℕ, suc, _+_, _-_, _*_, _≤_, _<_, min}
+use Prim.Native.Nat.{ℕ, _+_, _-_, _*_, _≤_, _<_, min}
 use mathlib.Core.Path.{_≡_, refl, sym, ap, _∙_}
-use mathlib.Core.List.{List, [], _++_, append-nil}
-use native.Mathlib.Nat.{add-zero}
+use mathlib.Core.List.{List, _++_}
 use native.Mathlib.Omega.{arith}
 use native.Mathlib.Decide.{decLt}
-use lib.ListN.{length, take, drop, take-append-drop}
+use lib.ListN.{length, take, drop}
 use borrow.Rule.Slice.PartMut.{putMid}
 use Rattle.paper.specs.Limits.{max-blocks, head-size, record-size}
 use Rattle.paper.specs.Diff.{Head, record-bytes, record-for, records-of, count-of, named}
@@ -16,7 +15,7 @@ use Rattle.paper.proofs.Names.{Fits, named-fits}
 use Rattle.paper.proofs.Meaning.{count-le, records-length}
 use Rattle.paper.proofs.Merging.{merged-first, merged-fits}
 use Rattle.number.specs.Put.{put}
-use Rattle.number.proofs.Puts.{put-length, put-put}
+use Rattle.number.proofs.Puts.{put-none, put-length, put-put}
 use Rattle.record.proofs.Stores.{put-part}
 use Rattle.merge.specs.declared.Walk.{Walk}
 use Rattle.merge.specs.Walks.{Passed, both, address-at, On, Walking, records-left, count-left, Same-left, Takes, Begun, Turned}
@@ -36,11 +35,6 @@ pub record Writing (d₀ d₁ : List ℕ) (h₀ h₁ : Head) (old out : List ℕ
   pub room : at + record-size * count-left (both d₀ d₁) (w .low) ≤ length out
   pub few : at + record-size * count-left (both d₀ d₁) (w .low) ≤ head-size + record-size * max-blocks
   pub left : put at (records-left (both d₀ d₁) (w .low)) out ≡ put head-size (records-of (both d₀ d₁) 0 max-blocks) old
-
--- nothing put changes nothing
-put-nothing : (k : ℕ) (s : List ℕ) → put k [] s ≡ s
-unfolding put
-put-nothing k s = simp (append-nil, add-zero) (take-append-drop k s)
 
 -- ---- the walk
 
@@ -160,4 +154,4 @@ module _ (d₀ d₁ : List ℕ) (h₀ h₁ : Head) where
 
   pub write-ends : (w : Walk) (old out : List ℕ) (at : ℕ) → Writing d₀ d₁ h₀ h₁ old out w at → max-blocks ≤ w .low
       → out ≡ put head-size (records-of (both d₀ d₁) 0 max-blocks) old
-  write-ends w old out at c l = sym (put-nothing at out) ∙ (rw (none-left (both d₀ d₁) (w .low) l .0) at (c .left))
+  write-ends w old out at c l = sym (put-none at out) ∙ (rw (none-left (both d₀ d₁) (w .low) l .0) at (c .left))

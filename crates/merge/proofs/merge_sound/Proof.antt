@@ -16,7 +16,7 @@ returns-3 : tie.Need-returns-3
 returns-3 c = search apart
 
 count-records-requires : tie.Need-count-records-requires
-count-records-requires c κs = c .before .before .before .before .before .before .before .before .before .before .pre
+count-records-requires c κs = search needs
 
 mul-size : tie.Need-mul-size
 mul-size c = search needs
@@ -34,11 +34,10 @@ write-requires : tie.Need-write-requires
 write-requires c κs = search needs
 
 write-records-requires : tie.Need-write-records-requires
-write-records-requires c κs =
-    (c .before .before .before .before .before .before .before .before .before .before .before .before .before .before .before .before .before .pre, omega (arith, c .before .before .before .before .before .if4 .left, c .before .before .before .write .kept .1 .0, c .before .before .before .before .before .before .count-records .ensures .0))
+write-records-requires c κs = search needs
 
 same-length : tie.Need-same-length
-same-length c = omega (arith, c .before .before .before .before .before .before .write .kept .1 .0, c .before .before .write-records .kept .1 .1 .1 .1 .0)
+same-length c = search needs
 
 returns-5 : tie.Need-returns-5
 returns-5 c =

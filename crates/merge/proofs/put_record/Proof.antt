@@ -1,6 +1,6 @@
 -- The whole record is copied, and a record that passed the check is the record of its address and content.
 use Prim.Native.Nat.{_+_, _*_}
-use mathlib.Core.Path.{refl, _∙_}
+use mathlib.Core.Path.{refl}
 use native.Mathlib.Omega.{arith}
 use lib.ListN.{length-take, length-drop}
 use Rattle.paper.proofs.Check.{sound}
