@@ -9,13 +9,12 @@ use lib.ListN.{length, getD, set, replicate}
 use lib.Seq.{getD-set-same, getD-set-other}
 use native.Mathlib.Omega.{arith}
 use native.Mathlib.Decide.{ℕ-discrete}
-use Rattle.paper.specs.Answer.{answer}
 use Rattle.paper.specs.State.{State, settled}
-use Rattle.paper.specs.Volume.{Further, done-state, decide-on}
+use Rattle.paper.specs.Volume.{done-state}
 use Rattle.paper.specs.Plan.{Shelf, entry, is-plan, First, No-plan, at-target}
 use Rattle.paper.proofs.Count.{how-many, how-many-more}
 use Rattle.paper.proofs.Lowest.{lowest, is-some, found-is-lowest, none-found, passing-is-found}
-use Rattle.paper.proofs.Step.{Some-plan, rising, done-is-next, accepts, next, plan-nil, plan-opens, plan-onto, accepts-rises}
+use Rattle.paper.proofs.Step.{Some-plan, accepts, next, plan-nil, plan-opens, plan-onto, accepts-rises}
 use Rattle.paper.proofs.Walk.{first-step, no-step}
 
 -- ---- where a step leads
@@ -42,13 +41,6 @@ after-on-way shelf e j = omega arith
 pub next-is-after : (shelf : Shelf) {e : ℕ} {s : State} (i : ℕ) → On-way e s → s .b < entry shelf i .q → next shelf s i ≡ after shelf e i
 unfolding after done-state
 next-is-after shelf {e} {s} i w r = let m : max (entry shelf i .q) (s .e) ≡ max (entry shelf i .q) e = omega arith in rw m
-
--- and so is Done
-pub done-is-after : (shelf : Shelf) {e : ℕ} {s : State} (i : ℕ) {f : Further} → On-way e s → decide-on (entry shelf i) s ≡ answer f
-    → f .done ≡ after shelf e i
-done-is-after shelf {s} i w d =
-    let r = rising (entry shelf i) s d in
-    done-is-next shelf s i d ∙ next-is-after shelf i w (rw (r .settles) at (r .rises))
 
 -- ---- marks
 

@@ -18,65 +18,70 @@ use Rattle.paper.proofs.Marks.{On-way, start-on-way, after-on-way, next
 
 -- ---- a sweep
 
--- a sweep that began with the marks `old` has looked at the places below j
+-- a sweep that began with the marks `old` has looked at the places from j on
 pub record Swept (shelf : Shelf) (e target : ℕ) (old marks : List Bool) (changed : Bool) (j : ℕ) : Type 0 where
+  pub within : j ≤ shelf .count
   pub size : length marks ≡ length old
   pub sound : Sound shelf e target (marked marks)
   pub no-fewer : how-many (marked old) (shelf .count) ≤ how-many (marked marks) (shelf .count)
   pub more : changed ≡ true → how-many (marked old) (shelf .count) < how-many (marked marks) (shelf .count)
-  pub quiet : changed ≡ false → (i : ℕ) → i < j → would-mark shelf e target (marked marks) i ≡ true → marked marks i ≡ true
+  pub quiet : changed ≡ false → (i : ℕ) → j ≤ i → i < shelf .count → would-mark shelf e target (marked marks) i ≡ true → marked marks i ≡ true
 
 module _ {shelf : Shelf} {e target : ℕ} where
-  -- it begins
-  pub sweep-begins : {marks : List Bool} → Sound shelf e target (marked marks) → Swept shelf e target marks marks false 0
+  -- it begins with the last place
+  pub sweep-begins : {marks : List Bool} → Sound shelf e target (marked marks) → Swept shelf e target marks marks false (shelf .count)
   sweep-begins sound = record {
+    within = omega arith;
     size = refl;
     sound = sound;
     no-fewer = omega arith;
     more = λ f. absurd (false≢true f);
-    quiet = λ _ i h. absurd (omega arith);
+    quiet = λ _ i l h. absurd (omega arith);
   }
 
-  module _ {old marks : List Bool} {changed : Bool} {j : ℕ} (so-far : Swept shelf e target old marks changed j) where
-    -- it marks place j
-    pub sweep-marks : j < shelf .count → j < length marks → marked marks j ≡ false → would-mark shelf e target (marked marks) j ≡ true
-        → Swept shelf e target old (set marks j true) true (j + 1)
-    sweep-marks h k u t =
-        let r = set-raises marks j (shelf .count) h k u in
+  module _ {old marks : List Bool} {changed : Bool} {j : ℕ} (so-far : Swept shelf e target old marks changed j) (left : 0 < j) where
+    -- it marks the next place down
+    pub sweep-marks : j - 1 < length marks → marked marks (j - 1) ≡ false → would-mark shelf e target (marked marks) (j - 1) ≡ true
+        → Swept shelf e target old (set marks (j - 1) true) true (j - 1)
+    sweep-marks k u t =
+        let r = set-raises marks (j - 1) (shelf .count) (omega (arith, so-far .within)) k u in
         record {
-          size = length-set marks j true ∙ so-far .size;
-          sound = set-stays-sound marks j shelf e target (so-far .sound) t;
+          within = omega (arith, so-far .within);
+          size = length-set marks (j - 1) true ∙ so-far .size;
+          sound = set-stays-sound marks (j - 1) shelf e target (so-far .sound) t;
           no-fewer = omega (arith, so-far .no-fewer);
           more = λ _. omega (arith, so-far .no-fewer);
           quiet = λ f. absurd (true≢false f);
         }
 
-    sweep-passes : (would-mark shelf e target (marked marks) j ≡ true → marked marks j ≡ true)
-        → Swept shelf e target old marks changed (j + 1)
+    sweep-passes : (would-mark shelf e target (marked marks) (j - 1) ≡ true → marked marks (j - 1) ≡ true)
+        → Swept shelf e target old marks changed (j - 1)
     sweep-passes pass = record {
+      within = omega (arith, so-far .within);
       size = so-far .size;
       sound = so-far .sound;
       no-fewer = so-far .no-fewer;
       more = so-far .more;
-      quiet = λ f i h. elim (ℕ-discrete i j) [ yes q ↦ rw q pass | no q ↦ so-far .quiet f i (omega arith) ];
+      quiet = λ f i l h. elim (ℕ-discrete i (j - 1)) [ yes q ↦ rw q pass | no q ↦ so-far .quiet f i (omega arith) h ];
     }
 
     -- it passes by a place that is marked
-    pub sweep-passes-marked : marked marks j ≡ true → Swept shelf e target old marks changed (j + 1)
+    pub sweep-passes-marked : marked marks (j - 1) ≡ true → Swept shelf e target old marks changed (j - 1)
     sweep-passes-marked t = sweep-passes (λ _. t)
 
     -- it passes by a place that it would not mark
-    pub sweep-passes-unmarked : would-mark shelf e target (marked marks) j ≡ false → Swept shelf e target old marks changed (j + 1)
+    pub sweep-passes-unmarked : would-mark shelf e target (marked marks) (j - 1) ≡ false → Swept shelf e target old marks changed (j - 1)
     sweep-passes-unmarked f = sweep-passes (λ t. absurd (false≢true (sym f ∙ t)))
 
+  module _ {old marks : List Bool} {changed : Bool} (swept : Swept shelf e target old marks changed 0) where
     -- it ends, and has changed something: fewer places are left to mark, so at most as many sweeps as places do so
     pub sweep-leaves-fewer : changed ≡ true
         → shelf .count - how-many (marked marks) (shelf .count) < shelf .count - how-many (marked old) (shelf .count)
-    sweep-leaves-fewer t = omega (arith, so-far .more t, how-many-bounded (marked marks) (shelf .count))
+    sweep-leaves-fewer t = omega (arith, swept .more t, how-many-bounded (marked marks) (shelf .count))
 
     -- it ends, and has changed nothing
-    pub sweep-ends : changed ≡ false → shelf .count ≤ j → Closed shelf e target (marked marks)
-    sweep-ends f h = record { swept = λ i k. so-far .quiet f i (omega arith) }
+    pub sweep-ends : changed ≡ false → Closed shelf e target (marked marks)
+    sweep-ends f = record { swept = λ i. swept .quiet f i (omega arith) }
 
 -- ---- the walk
 

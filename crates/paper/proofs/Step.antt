@@ -48,16 +48,10 @@ pub done-is-next : (shelf : Shelf) (s : State) (i : ℕ) {f : Further} → decid
 unfolding done-state
 done-is-next shelf s i d = rising (entry shelf i) s d .settles
 
--- an entry below the count that is accepted
-pub accepts-yes : (shelf : Shelf) (s : State) (i : ℕ) {f : Further} → i < shelf .count → decide-on (entry shelf i) s ≡ answer f
-    → accepts shelf s i ≡ true
-unfolding accepts accepted
-accepts-yes shelf s i h e = rw (lt-leb (shelf .count) i h, e)
-
--- an entry that is refused
-pub accepts-no : (shelf : Shelf) (s : State) (i : ℕ) {k : ℕ} → decide-on (entry shelf i) s ≡ refuse k → accepts shelf s i ≡ false
-unfolding accepts accepted
-accepts-no shelf s i e = rw (e, and-false)
+-- below the count the entry decides
+pub accepts-below : (shelf : Shelf) (s : State) (i : ℕ) → i < shelf .count → accepts shelf s i ≡ accepted (decide-on (entry shelf i) s)
+unfolding accepts
+accepts-below shelf s i h = rw (lt-leb (shelf .count) i h)
 
 -- what is known of a place that is accepted: it is below the count, and b rises to its q
 pub record Accepted (shelf : Shelf) (s : State) (i : ℕ) : Type 0 where

@@ -98,7 +98,7 @@ fn while_state(h: Head, s: State) -> While
     }
 }
 
-fn done_state(h: Head, s: State) -> Done
+pub fn done_state(h: Head, s: State) -> Done
     ensures { λ r. ⌜ done r ≡ done-state (head h) (state s) ⌝ }
 {
     Done {
