@@ -2,6 +2,7 @@
 mod decisions;
 mod make;
 mod merges;
+mod plans;
 mod print;
 mod volumes;
 
@@ -19,4 +20,7 @@ fn main() {
     merges::compares();
     merges::odd_compares();
     merges::ragged_compare();
+    plans::rows();
+    plans::ends();
+    plans::bad();
 }
