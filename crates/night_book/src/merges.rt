@@ -119,8 +119,8 @@ pub fn merge_ends() {
 fn compared(name: &[u8], p: u64, q: u64, x: u8, y: u8) {
     let old = [1u8; 1536];
     let mut new = [1u8; 1536];
-    new[5] = x;
-    new[1535] = y;
+    new[0] = x;
+    new[1024] = y;
     let mut out = [238u8; 1579];
     answered(name, compare::compare(&old, &new, p, q, &mut out));
     blocks(&out);

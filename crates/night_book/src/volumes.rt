@@ -14,7 +14,7 @@ fn firsts(img: &[u8; 1536]) {
     print::text(b",");
     print::byte(img[512]);
     print::text(b",");
-    print::byte(img[1535]);
+    print::byte(img[1024]);
     print::end();
 }
 

@@ -1,5 +1,5 @@
 -- What a merge gives: the one diff that means both, the second over the first. So merging three diffs is the same from the left and from the right:
--- "the second's block, else the first's" is associative, and each way asks that the three are log diffs that touch.
+-- taking the second's block, else the first's, is associative, and each way asks that the three are log diffs that touch.
 use Prim.Native.Nat.{ℕ, _≤_, _<_}
 use mathlib.Core.Path.{_≡_, refl, sym, ap, _∙_}
 use mathlib.Core.Logic.{_↔_}

@@ -1,4 +1,4 @@
--- What a sound state is, as facts: the gids go with the kind and are not too large. While and Done of an accepted apply are sound.
+-- What a sound state is, as facts: the gids go with the kind and are not too large.
 use Prim.Native.Nat.{ℕ, _≤_, _<_}
 use mathlib.Core.Path.{_≡_, refl, sym, _∙_}
 use mathlib.Core.List.{List}

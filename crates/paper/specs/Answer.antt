@@ -40,11 +40,6 @@ unfoldable pub over : {A : Type 0} → List ℕ → Said (Wrote A) → List ℕ
 over old (answer w) = w .bytes ++ drop (length (w .bytes)) old
 over old (refuse k) = old
 
--- "A refusal gives its number alone (counts, lengths and places zero ..)": the count that is handed out
-unfoldable pub count-out : Said ℕ → ℕ
-count-out (answer n) = n
-count-out (refuse k) = 0
-
 -- The table of numbers.
 abbrev pub CutOff : ℕ
 CutOff = 1

@@ -2,9 +2,10 @@
 -- Each is found again from what it says: a refusal at its number of 01's table, a kind at its own.
 use Prim.Native.Nat.{ℕ, _-_}
 use mathlib.Core.Path.{_≡_, refl, sym, ap, _∙_}
-use mathlib.Core.List.{[], _∷_}
-use lib.ListN.{getD}
-use Rattle.paper.specs.Answer.{Said, answer, refuse}
+use mathlib.Core.List.{List, [], _∷_}
+use lib.ListN.{length, getD}
+use Rattle.paper.specs.Answer.{Said, answer, refuse, comes-back, over}
+use Rattle.paper.specs.Image.{check-image}
 use Rattle.paper.specs.Diff as Diff
 use Rattle.paper.specs.State as State
 use Rattle.record.specs.declared.refusal.Refusal.{Refusal}
@@ -135,3 +136,18 @@ blocks-found (image-said.No r) = ap image-said.No (refusal-found r)
 
 pub one-blocks : (r s : ImageSaid) → said-blocks r ≡ said-blocks s → r ≡ s
 one-blocks = one said-blocks blocks-from blocks-found
+
+-- ---- the calls for others: two outcomes that meet the statement are one
+
+pub one-read : (bytes : List ℕ) (r s : StateSaid) → said-state r ≡ State.read-state bytes → said-state s ≡ State.read-state bytes → r ≡ s
+one-read bytes r s e f = one-state r s (e ∙ sym f)
+
+pub one-image : (img : List ℕ) (r s : ImageSaid) → said-blocks r ≡ check-image img → said-blocks s ≡ check-image img → r ≡ s
+one-image img r s e f = one-blocks r s (e ∙ sym f)
+
+-- of a state written: the answer and the slice
+pub one-write : (v : State.State) (old : List ℕ) (r s : Written) (x y : List ℕ)
+    → said-length r ≡ comes-back (State.write-state v (length old)) → x ≡ over old (State.write-state v (length old))
+    → said-length s ≡ comes-back (State.write-state v (length old)) → y ≡ over old (State.write-state v (length old))
+    → (r ≡ s) × (x ≡ y)
+one-write v old r s x y e f g h = (one-length r s (e ∙ sym g), f ∙ sym h)

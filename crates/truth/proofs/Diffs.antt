@@ -1,4 +1,4 @@
--- True diffs exist for every history over images: the bytes written for what the history says pass the check and mean just that.
+-- True diffs exist for every history within 01's limits: the bytes written for what the history says pass the check and mean just that.
 -- A block that is named lies inside and is a whole block of H(q), so the map is one that a diff can mean.
 use Prim.Native.Nat.{ℕ, _-_, _*_, _≤_, _<_}
 use mathlib.Core.Path.{_≡_, refl, sym, _∙_}

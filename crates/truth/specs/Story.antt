@@ -1,4 +1,8 @@
 -- Demand 3: what may happen to a volume, and what then holds of it. Everything is said over bytes: diffs, the saved state record, the image.
+-- The demand: "One write history, a volume whose saved state is true of it, diffs true to it: after any sequence of accepted applies, finished or cut
+-- with any mix of old and new bytes, and accepted merges whose results serve as diffs too, the state stays true (given the While state was saved whole
+-- before the first byte moved, and Done only after the last). Clean at a gid means every byte is the history's at that gid; blocks that no applied diff
+-- names never changed; right after a cut, the diff that was cut, or any merge that contains it, is accepted."
 use Prim.Native.Nat.{ℕ, _<_}
 use mathlib.Core.Path.{_≡_}
 use mathlib.Core.Option.{none}
@@ -44,7 +48,7 @@ pub data Cut (d : List ℕ) (v : Volume) : Volume → Type 0 where
       → Cut d v (record { saved = state-bytes (f .while); image = now })
   cut-run : {f : Further} {w : Wrote ℕ} {rs : List Stretch} {mid now : List ℕ} (r : Stretch) → decide d (v .saved) (v .image) ≡ answer f
       → Runs d rs (v .image) mid → run d mid (r .first) (r .number) ≡ answer w → Mixed mid (w .bytes) now
-      → Cut d v (record { saved = state-bytes (f .while); image = now })
+      → Cut d v (record { image = now; saved = state-bytes (f .while) })
 
 -- An accepted apply that is finished, at once or in runs that between them cover all records: "Done only after the last" byte.
 pub data Finish (d : List ℕ) (v : Volume) : Volume → Type 0 where
@@ -68,7 +72,7 @@ abbrev pub Unnamed : ℕ → List (List ℕ) → Type 0
 Unnamed a [] = Unit {0}
 Unnamed a (d ∷ ds) = (named d a ≡ none) × Unnamed a ds
 
--- some state pair is decided: the apply is accepted
+-- the two further states are decided: the apply is accepted
 pub record Is-accepted (d : List ℕ) (v : Volume) : Type 0 where
   pub states : Further
   pub decides : decide d (v .saved) (v .image) ≡ answer states

@@ -46,7 +46,7 @@ pub enum Ran {
     No(Refusal),
 }
 
-// "the smaller of i + k and n"; the sum does not wrap, since i ≤ n.
+// "the smaller of i + k and n"; the sum is made only where it is at most n, so it does not wrap.
 fn run_end(n: usize, i: usize, k: usize) -> usize
     requires { ⌜ i ≤ n ⌝ }
     ensures { λ r. ⌜ r ≡ min (i + k) n ⌝ }

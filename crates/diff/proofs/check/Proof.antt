@@ -1,13 +1,10 @@
+-- `diff::check` meets its contract: the head's refusal is the answer, else the rest of the check decides.
 use mathlib.Core.Path.{sym, ap, _∙_}
 use Rattle.record.specs.Heads.{said-head}
 use Rattle.diff.proofs.Answers.{head-no}
 use borrow.Author.Needs.{needs}
 use Rattle.diff.proofs.check.Statement.{statement}
 use Rattle.diff.proofs.check.Tie as tie
-use Rattle.diff.proofs.check.Reads as reads
-use Rattle.diff.proofs.check.Lts as lts
-use Rattle.diff.proofs.check_body.Reads as check-body-reads
-use Rattle.record.proofs.head.Head.read.Reads as read-reads
 
 read-requires : tie.Need-read-requires
 read-requires c κs = search needs

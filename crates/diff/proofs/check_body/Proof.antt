@@ -1,3 +1,4 @@
+-- `diff::check_body` meets its contract: each return is one case of the definition, the length's two and then that of the records.
 use mathlib.Core.Path.{sym, ap, _∙_}
 use native.Mathlib.Omega.{arith}
 use Rattle.paper.proofs.Check.{Headed, headed}
@@ -7,9 +8,6 @@ use Rattle.diff.proofs.Answers.{too-short, too-long, record-no, all-sou
 use borrow.Author.Needs.{needs}
 use Rattle.diff.proofs.check_body.Statement.{statement}
 use Rattle.diff.proofs.check_body.Tie as tie
-use Rattle.diff.proofs.check_body.Reads as reads
-use Rattle.diff.proofs.check_body.Lts as lts
-use Rattle.record.proofs.records.check_records.Reads as check-records-reads
 
 cast-n : tie.Need-cast-n
 cast-n c = search needs

@@ -1,85 +1,64 @@
+-- `number::read_u32` meets its contract: the four bytes, each times its place, are the field.
 use native.Mathlib.Omega.{arith}
 use Rattle.number.proofs.Fields.{field-4}
 use borrow.Author.Needs.{needs}
 use Rattle.number.proofs.read_u32.Statement.{statement}
 use Rattle.number.proofs.read_u32.Tie as tie
-use Rattle.number.proofs.read_u32.Reads as reads
-use Rattle.number.proofs.read_u32.Lts as lts
-use Rattle.number.proofs.wide.Reads as wide-reads
 
--- src/lib.rt:22:19
 shared-slice-read-wide : tie.Need-shared-slice-read-wide
 shared-slice-read-wide c = search needs
 
--- src/lib.rt:22:9
 wide-requires : tie.Need-wide-requires
 wide-requires c κs = search needs
 
--- src/lib.rt:23:21
 add-wide : tie.Need-add-wide
 add-wide c = search needs
 
--- src/lib.rt:23:19
 shared-slice-read-wide-2 : tie.Need-shared-slice-read-wide-2
 shared-slice-read-wide-2 c = search needs
 
--- src/lib.rt:23:9
 wide-requires-2 : tie.Need-wide-requires-2
 wide-requires-2 c κs = search needs
 
--- src/lib.rt:24:21
 add-wide-2 : tie.Need-add-wide-2
 add-wide-2 c = search needs
 
--- src/lib.rt:24:19
 shared-slice-read-wide-3 : tie.Need-shared-slice-read-wide-3
 shared-slice-read-wide-3 c = search needs
 
--- src/lib.rt:24:9
 wide-requires-3 : tie.Need-wide-requires-3
 wide-requires-3 c κs = search needs
 
--- src/lib.rt:25:21
 add-wide-3 : tie.Need-add-wide-3
 add-wide-3 c = search needs
 
--- src/lib.rt:25:19
 shared-slice-read-wide-4 : tie.Need-shared-slice-read-wide-4
 shared-slice-read-wide-4 c = search needs
 
--- src/lib.rt:25:9
 wide-requires-4 : tie.Need-wide-requires-4
 wide-requires-4 c κs = search needs
 
--- src/lib.rt:26:11
 mul-result : tie.Need-mul-result
 mul-result c = search needs
 
--- src/lib.rt:26:6
 add-result : tie.Need-add-result
 add-result c = search needs
 
--- src/lib.rt:26:24
 mul-result-2 : tie.Need-mul-result-2
 mul-result-2 c = search needs
 
--- src/lib.rt:26:6
 add-result-2 : tie.Need-add-result-2
 add-result-2 c = search needs
 
--- src/lib.rt:26:40
 mul-result-3 : tie.Need-mul-result-3
 mul-result-3 c = search needs
 
--- src/lib.rt:26:6
 add-result-3 : tie.Need-add-result-3
 add-result-3 c = search needs
 
--- src/lib.rt:26:5
 cast-result : tie.Need-cast-result
 cast-result c = search needs
 
--- src/lib.rt:18:1
 returns : tie.Need-returns
 returns c =
     let s = c .before .before .before .before .before .before .before .before .before .args in

@@ -1,41 +1,31 @@
+-- `number::read_u64` meets its contract: eight bytes are four and four.
 use native.Mathlib.Omega.{arith}
 use Rattle.number.proofs.Fields.{field-8}
 use borrow.Author.Needs.{needs}
 use Rattle.number.proofs.read_u64.Statement.{statement}
 use Rattle.number.proofs.read_u64.Tie as tie
-use Rattle.number.proofs.read_u64.Reads as reads
-use Rattle.number.proofs.read_u64.Lts as lts
-use Rattle.number.proofs.read_u32.Reads as read-u32-reads
 
--- src/lib.rt:34:15
 read-u32-requires : tie.Need-read-u32-requires
 read-u32-requires c κs = search needs
 
--- src/lib.rt:34:15
 cast-low : tie.Need-cast-low
 cast-low c = search needs
 
--- src/lib.rt:35:28
 add-read-u32 : tie.Need-add-read-u32
 add-read-u32 c = search needs
 
--- src/lib.rt:35:16
 read-u32-requires-2 : tie.Need-read-u32-requires-2
 read-u32-requires-2 c κs = search needs
 
--- src/lib.rt:35:16
 cast-high : tie.Need-cast-high
 cast-high c = search needs
 
--- src/lib.rt:36:11
 mul-result : tie.Need-mul-result
 mul-result c = search needs
 
--- src/lib.rt:36:5
 add-result : tie.Need-add-result
 add-result c = search needs
 
--- src/lib.rt:30:1
 returns : tie.Need-returns
 returns c =
     let s = c .before .before .before .args in

@@ -1,3 +1,4 @@
+-- `records::address` meets its contract: the part of the diff from record i on is the rest that the definition reads.
 use Prim.Native.Nat.{_+_, _*_}
 use mathlib.Core.Path.{refl, ap, _∙_}
 use Rattle.paper.specs.Diff.{address-of}
@@ -7,35 +8,25 @@ use Rattle.record.proofs.Walk.{part-rest}
 use borrow.Author.Needs.{needs}
 use Rattle.record.proofs.records.address.Statement.{statement}
 use Rattle.record.proofs.records.address.Tie as tie
-use Rattle.record.proofs.records.address.Reads as reads
-use Rattle.record.proofs.records.address.Lts as lts
-use Rattle.record.proofs.block.Block.address_of.Reads as address-of-reads
 
--- src/records.rt:47:27
 mul-at : tie.Need-mul-at
 mul-at c = search needs
 
--- src/records.rt:47:14
 add-at : tie.Need-add-at
 add-at c = search needs
 
--- src/records.rt:48:23
 sub-address-of : tie.Need-sub-address-of
 sub-address-of c = search needs
 
--- src/records.rt:48:23
 part-address-of-start : tie.Need-part-address-of-start
 part-address-of-start c = search needs
 
--- src/records.rt:48:23
 part-address-of-end : tie.Need-part-address-of-end
 part-address-of-end c = search needs
 
--- src/records.rt:48:5
 address-of-requires : tie.Need-address-of-requires
 address-of-requires c κs = simp (length-take, length-drop) (omega arith)
 
--- src/records.rt:43:1
 returns : tie.Need-returns
 returns c =
     let args = c .before .before .before .args in

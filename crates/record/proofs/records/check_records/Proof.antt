@@ -1,3 +1,4 @@
+-- `records::check_records` meets its contract: what is left to check, from the record at hand on, is the whole answer at every turn.
 use Prim.Native.Nat.{_-_, _≤_}
 use native.Mathlib.Omega.{arith}
 use lib.ListN.{length-take, length-drop}
@@ -5,9 +6,6 @@ use Rattle.record.proofs.Walk.{Checking, check-begins, small-address, c
 use borrow.Author.Needs.{needs}
 use Rattle.record.proofs.records.check_records.Statement.{statement}
 use Rattle.record.proofs.records.check_records.Tie as tie
-use Rattle.record.proofs.records.check_records.Reads as reads
-use Rattle.record.proofs.records.check_records.Lts as lts
-use Rattle.record.proofs.block.Block.read.Reads as read-reads
 
 abbrev Inv-loop : tie.InvT-loop
 Inv-loop d n i₀ at₀ low₀ i at low =

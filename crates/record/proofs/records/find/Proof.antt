@@ -1,3 +1,4 @@
+-- `records::find` meets its contract: what is left to look through is the whole answer at every turn.
 use Rattle.record.specs.Heads.{head}
 use Prim.Native.Nat.{_-_}
 use native.Mathlib.Omega.{arith}
@@ -5,9 +6,6 @@ use Rattle.record.proofs.Walk.{Seeking, seek-begins, seek-stops, seek-g
 use borrow.Author.Needs.{needs}
 use Rattle.record.proofs.records.find.Statement.{statement}
 use Rattle.record.proofs.records.find.Tie as tie
-use Rattle.record.proofs.records.find.Reads as reads
-use Rattle.record.proofs.records.find.Lts as lts
-use Rattle.record.proofs.records.address.Reads as address-reads
 
 abbrev Inv-loop : tie.InvT-loop
 Inv-loop d a n i₀ i = Seeking d a n i
@@ -15,43 +13,34 @@ Inv-loop d a n i₀ i = Seeking d a n i
 abbrev μ-loop : tie.MeasureT-loop
 μ-loop d a n i₀ i = n - i
 
--- src/records.rt:74:13
 cast-n : tie.Need-cast-n Inv-loop μ-loop
 cast-n c = search needs
 
--- src/records.rt:76:5
 loop-holds : tie.Need-loop-holds Inv-loop μ-loop
 loop-holds c = seek-begins _ _ (head (c .before .before .args .h)) (c .before .before .pre)
 
--- src/records.rt:77:12
 address-requires : tie.Need-address-requires Inv-loop μ-loop
 address-requires c κs = let s = c .before .loop .inv in omega (arith, s .long, s .few)
 
--- src/records.rt:77:12
 cast-if1 : tie.Need-cast-if1 Inv-loop μ-loop
 cast-if1 c = search needs
 
--- src/records.rt:78:13
 returns : tie.Need-returns Inv-loop μ-loop
 returns c =
     let at = c .before .before .before .loop in
     seek-stops _ _ _ (at .i) _ (at .inv) (c .before .before .loop-test .taken) (c .before .address .ensures) (c .if1 .taken)
 
--- src/records.rt:80:9
 add-i : tie.Need-add-i Inv-loop μ-loop
 add-i c = search needs
 
--- src/records.rt:76:5
 loop-less : tie.Need-loop-less Inv-loop μ-loop
 loop-less c = search needs
 
--- src/records.rt:76:5
 loop-again : tie.Need-loop-again Inv-loop μ-loop
 loop-again c =
     let at = c .before .before .before .loop in
     seek-goes-on _ _ _ (at .i) _ (at .inv) (c .before .before .loop-test .taken) (c .before .address .ensures) (c .if1 .left)
 
--- src/records.rt:70:1
 returns-2 : tie.Need-returns-2 Inv-loop μ-loop
 returns-2 c = search seek-finishes
 
