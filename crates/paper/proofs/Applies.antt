@@ -1,15 +1,15 @@
 -- What an accepted apply says of its diff, its state and its image, and that such a diff, state and image are accepted.
 use Prim.Native.Nat.{ℕ}
-use mathlib.Core.Path.{_≡_, refl, sym, ap, _∙_}
+use mathlib.Core.Path.{_≡_, sym, ap}
 use mathlib.Core.List.{List}
-use mathlib.Core.Bool.{Bool, false}
-use Rattle.paper.specs.Answer.{Said, answer, guard, _then_, Wrote, Outside}
+use mathlib.Core.Bool.{false}
+use Rattle.paper.specs.Answer.{answer, _then_, Wrote, Outside}
 use Rattle.paper.specs.Image.{check-image, overlay}
 use Rattle.paper.specs.Diff.{Head, check, named, names-outside}
 use Rattle.paper.specs.State.{State, read-state}
-use Rattle.paper.specs.Volume.{Further, decide-on, decide, apply}
-use Rattle.paper.proofs.Answers.{answer-injective, Passed, guard-answer, Both, then-answer}
-use Rattle.paper.proofs.Decisions.{Accepted, further, Decided, decided, accepts}
+use Rattle.paper.specs.Volume.{Further, decide, apply}
+use Rattle.paper.proofs.Answers.{answer-injective, guard-answer, then-answer}
+use Rattle.paper.proofs.Decisions.{Accepted, further, decided, accepts}
 
 -- every check of an apply passed
 pub record Applies (d state img : List ℕ) : Type 0 where

@@ -1,18 +1,18 @@
 -- What an accepted apply means, by cases, and that its two further states are sound.
-use Prim.Native.Nat.{ℕ, _≤_, _<_, max}
-use mathlib.Core.Path.{_≡_, refl, sym, ap, _∙_}
-use mathlib.Core.Bool.{Bool, true, false, cond, not, _&&_, _||_, or-true}
+use Prim.Native.Nat.{_≤_, _<_}
+use mathlib.Core.Path.{_≡_, refl, sym}
+use mathlib.Core.Bool.{true, false, _&&_, _||_, or-true}
 use native.Mathlib.Omega.{arith}
-use lib.Dec.{leb, ltb, eqb}
+use lib.Dec.{eqb}
 use borrow.Author.Tests.{ltb-false, leb-false, eqb-true, not-false, lt-leb, le-ltb, eq-eqb}
 use Rattle.paper.specs.Limits.{max-gid}
-use Rattle.paper.specs.Answer.{Said, answer, guard, Behind, Gap, Short, NotExact}
+use Rattle.paper.specs.Answer.{answer, Behind, Gap, Short, NotExact}
 use Rattle.paper.specs.Diff.{Head, is-compared}
 use Rattle.paper.specs.State.{State, is-clean}
 use Rattle.paper.specs.Volume.{Further, behind, gap, short, exact, not-exact, is-pair-while, while-state, done-state, decide-on}
-use Rattle.paper.proofs.Answers.{answer-injective, Passed, guard-answer, guard-passes}
+use Rattle.paper.proofs.Answers.{answer-injective, guard-answer}
 use Rattle.paper.proofs.Bools.{Which, holds, fails, which, and-true-left, and-true-right}
-use Rattle.paper.proofs.States.{Fits-kind, is-settled, is-span, is-pair, Good-state, Clean, clean-of}
+use Rattle.paper.proofs.States.{Fits-kind, is-settled, is-span, is-pair, Good-state, clean-of}
 
 -- the two further states of an apply of a diff with head h at state s
 abbrev pub further : Head → State → Further

@@ -1,15 +1,13 @@
 -- A history over several steps: a block that no step from p to q − 1 writes is the same in each image from H(p) to H(q).
 -- So the maps of two log diffs that touch or overlap merge into the map of the log diff over both.
 use Prim.Native.Nat.{ℕ, zero, suc, _+_, _-_, _≤_, _<_, min}
-use mathlib.Core.Path.{_≡_, refl, sym, ap, _∙_}
-use mathlib.Core.Option.{Option, none, some}
-use mathlib.Core.List.{List}
-use mathlib.Core.Bool.{Bool, true, false, _||_, true≢false}
+use mathlib.Core.Path.{_≡_, sym, ap, _∙_}
+use mathlib.Core.Option.{some}
+use mathlib.Core.Bool.{true, false, _||_, true≢false}
 use native.Mathlib.Omega.{arith}
-use native.Mathlib.Nat.{not-suc-le-zero}
 use native.Mathlib.Decide.{decLt}
 use Rattle.paper.specs.Image.{block}
-use Rattle.paper.specs.Merge.{second-else-first, merged}
+use Rattle.paper.specs.Merge.{merged}
 use Rattle.paper.specs.History.{History, writes-in, logged}
 use Rattle.paper.proofs.Bools.{Which, holds, fails, which, or-false-left, or-false-right}
 

@@ -1,7 +1,6 @@
 -- Images byte by byte: byte i lies in block i / 512, at i % 512 of it. So blocks that are equal have equal bytes, and the other way round.
 use Prim.Native.Nat.{ℕ, zero, suc, _+_, _*_, _/_, _%_, _-_, _≤_, _<_, min}
 use mathlib.Core.Path.{_≡_, refl, sym, ap, fun-ext, _∙_}
-use mathlib.Core.Option.{Option, none, some}
 use mathlib.Core.List.{List, [], _∷_}
 use mathlib.Core.Logic.{_↔_}
 use mathlib.Core.Bool.{true, false, not, _||_, true≢false, false≢true}
@@ -9,12 +8,12 @@ use native.Mathlib.Omega.{arith}
 use native.Mathlib.Nat.{not-suc-le-zero, le-of-suc-le-suc}
 use lib.Dec.{eqb, ltb}
 use borrow.Author.Tests.{ltb-false, eqb-true, eqb-false, eq-eqb, ne-eqb, not-false, le-ltb}
-use lib.ListN.{length, getD, take, drop, length-take, length-drop, drop-of-length-le}
+use lib.ListN.{length, getD, drop, length-take, length-drop, drop-of-length-le}
 use lib.Seq.{getD-take, getD-drop, ext-getD}
 use Rattle.paper.specs.Limits.{block-bytes, max-blocks}
 use Rattle.paper.specs.Image.{Map, bad-image, check-image, block, each, byte-after, overlay, same}
-use Rattle.paper.specs.Answer.{answer, refuse, guard, BadImage}
-use Rattle.paper.proofs.Answers.{answer-injective, Passed, guard-answer, guard-refuse}
+use Rattle.paper.specs.Answer.{answer, refuse, BadImage}
+use Rattle.paper.proofs.Answers.{answer-injective, guard-answer, guard-refuse}
 use Rattle.paper.proofs.Numbers.{part-length}
 use Rattle.paper.proofs.Bools.{neither, and-true-left, and-true-right}
 

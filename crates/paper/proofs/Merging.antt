@@ -13,11 +13,13 @@ use native.Mathlib.Omega.{arith}
 use borrow.Author.Tests.{eqb-true, eqb-false, eq-eqb, not-false}
 use Rattle.paper.specs.Limits.{block-bytes, max-blocks}
 use Rattle.paper.specs.Answer.{answer, guard, Wrote, Apart}
-use Rattle.paper.specs.Image.{Map}
+use Rattle.paper.specs.Image.{Map, overlay}
 use Rattle.paper.specs.Diff.{Head, log-head, bad-head, is-compared, check, named, counted, written}
 use Rattle.paper.specs.Merge.{merged, merge-heads, merge}
 use Rattle.paper.proofs.Answers.{answer-injective, Passed, guard-answer, then-answer, wrote, Output, output-answer, output-passes}
 use Rattle.paper.proofs.Bools.{neither}
+use Rattle.paper.proofs.Images.{overlay-same}
+use Rattle.paper.proofs.Overlay.{overlay-overlay}
 use Rattle.paper.proofs.Check.{Good-head, good-head, good-passes, sound}
 use Rattle.paper.proofs.Names.{Fits, unnamed, named-as, seen, named-fits}
 use Rattle.paper.proofs.Meaning.{reads-back-check, reads-back-map, written-same}
@@ -290,3 +292,10 @@ pub merge-assoc : {x y z y′ : Wrote ℕ} (d₀ d₁ d₂ : List ℕ) (r₀ r�
     → y .bytes ≡ y′ .bytes
 merge-assoc d₀ d₁ d₂ r₀ r₁ r₂ r₃ x y z y′ =
     three-one (three-left (merge-of d₀ d₁ r₀ x) (merge-of _ d₂ r₁ y)) (three-right (merge-of d₁ d₂ r₂ z) (merge-of d₀ _ r₃ y′))
+
+-- b2: applying a merge is applying the first and then the second
+pub merge-applies : {w : Wrote ℕ} (d₀ d₁ : List ℕ) (room : ℕ) (img : List ℕ) → merge d₀ d₁ room ≡ answer w
+    → overlay (overlay img (named d₀)) (named d₁) ≡ overlay img (named (w .bytes))
+merge-applies d₀ d₁ room img e =
+    overlay-overlay img (named d₀) (named d₁)
+    ∙ sym (overlay-same img _ (merged (named d₀) (named d₁)) (merge-of d₀ d₁ room e .names))

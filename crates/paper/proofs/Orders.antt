@@ -2,13 +2,12 @@
 use Prim.Native.Nat.{ℕ}
 use mathlib.Core.Path.{_≡_, refl}
 use mathlib.Core.List.{List, [], _∷_, _++_}
-use lib.ListN.{length, getD, take, drop, replicate}
-use lib.IntN.{ℤ}
+use lib.ListN.{take, drop, replicate}
 use Rattle.paper.specs.Limits.{block-bytes, head-mark, block-mark}
 use Rattle.paper.specs.Number.{little, spelled, field, opens}
 use Rattle.paper.specs.Answer.{Said, number, output, CutOff, BadMark, BadHead, TooMany, BadOrder, Tail, BadState, BadImage, Outside, BadStart, Behind, Gap, Short, Compared, Apart, NoRoom, ShelfFull, BadGid}
 use Rattle.paper.specs.Image.{bad-image, check-image}
-use Rattle.paper.specs.Diff.{Head, log-head, compared-head, head-of, head-bytes, bad-head, check-head, address-of, content-of, record-bytes, check-record, check-records, read-head, check, seek, names-outside}
+use Rattle.paper.specs.Diff.{Head, log-head, compared-head, head-of, head-bytes, bad-head, check-head, address-of, record-bytes, check-record, check-records, read-head, check, names-outside}
 use Rattle.paper.specs.State.{clean, pair, is-clean, fits-kind, bad-state, state-of, state-bytes, bad-record, read-state, write-state}
 use Rattle.paper.specs.Volume.{exact, decide-on, decide, run, read-through, lag}
 use Rattle.paper.specs.Merge.{merge-heads, merge}

@@ -1,6 +1,6 @@
 -- Applying one map over another is applying their merge (the note's b2): it holds byte by byte.
 use Prim.Native.Nat.{ℕ, _*_, _/_, _%_, _+_, _-_, _≤_, _<_, min}
-use mathlib.Core.Path.{_≡_, refl, sym, ap, _∙_}
+use mathlib.Core.Path.{_≡_, refl, sym, _∙_}
 use mathlib.Core.Option.{Option, none, some}
 use mathlib.Core.List.{List}
 use mathlib.Core.Logic.{_⊎_, inl, inr}

@@ -1,13 +1,13 @@
 -- 01, "Rows from the night book": the plans over one shelf. Each step goes to the lowest place that is accepted, and from there the rest is first.
-use Prim.Native.Nat.{ℕ, zero, suc, _≤_, _<_}
+use Prim.Native.Nat.{ℕ, zero, suc, _<_}
 use mathlib.Core.Path.{_≡_, refl, sym, _∙_}
-use mathlib.Core.Option.{Option, none, some}
+use mathlib.Core.Option.{some}
 use mathlib.Core.List.{List, [], _∷_}
 use mathlib.Core.Bool.{Bool, true, false, false≢true}
 use native.Mathlib.Omega.{arith}
 use Rattle.paper.specs.Number.{little, spelled, field, opens}
 use Rattle.paper.specs.Answer.{answer, refuse, NoChain}
-use Rattle.paper.specs.Diff.{Head, log-head, compared-head, check-head, bad-head}
+use Rattle.paper.specs.Diff.{log-head, compared-head, check-head, bad-head}
 use Rattle.paper.specs.State.{State, settled, clean, is-clean, fits-kind, bad-state, state-of, state-bytes, bad-record, read-state}
 use Rattle.paper.specs.Volume.{exact, is-pair-while, while-state, done-state, decide-on}
 use Rattle.paper.specs.Plan.{Shelf, check-entries, plan-checks, at-target, is-plan, No-plan, First, Plan-says, listed, no-chain}

@@ -3,15 +3,14 @@ use Prim.Native.Nat.{ℕ, zero, suc, _+_, _≤_, _<_}
 use mathlib.Core.Path.{_≡_, refl, sym, ap, _∙_}
 use mathlib.Core.Logic.{_≢_, _↔_}
 use mathlib.Core.List.{List, [], _∷_, _++_}
-use mathlib.Core.Bool.{Bool, true, false, not, _||_, true≢false}
-use lib.Dec.{ltb, leb, eqb}
-use lib.ListN.{length, getD, take, length-take}
+use mathlib.Core.Bool.{Bool, true, false, not, true≢false}
+use lib.Dec.{ltb, leb}
+use lib.ListN.{length, take, length-take}
 use lib.Seq.{ext-getD, getD-take}
 use native.Mathlib.Omega.{arith}
 use borrow.Author.Tests.{ltb-true, lt-ltb, le-ltb, leb-false}
 use Rattle.paper.specs.Answer.{Said, answer, refuse, guard, _then_, number, NoChain, BadHead, TooMany, BadState, ShelfFull, BadGid}
-use Rattle.paper.specs.Limits.{max-blocks, max-places, max-gid, state-size, state-mark}
-use Rattle.paper.specs.Number.{opens}
+use Rattle.paper.specs.Limits.{max-blocks, max-places, max-gid}
 use Rattle.paper.specs.Diff.{bad-head, check-head}
 use Rattle.paper.specs.State.{State, state-of, bad-record, read-state}
 use Rattle.paper.specs.Volume.{done-state, decide-on}

@@ -3,7 +3,7 @@ use Prim.Native.Nat.{ℕ}
 use mathlib.Core.Path.{_≡_, refl}
 use mathlib.Core.List.{List, [], _∷_}
 use lib.ListN.{replicate}
-use lib.IntN.{ℤ, negsuc}
+use lib.IntN.{negsuc}
 use Rattle.paper.specs.Limits.{block-bytes}
 use Rattle.paper.specs.Number.{little, spelled, field, opens}
 use Rattle.paper.specs.Answer.{Said, answer, refuse, Behind, Gap, Short, NotExact}

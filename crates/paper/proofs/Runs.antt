@@ -1,27 +1,26 @@
 -- Runs: each writes part of the diff's map, and the maps of runs that cover all records merge into the whole map, in any order and with repeats.
 -- A cut among them leaves a mix of old and new bytes.
-use Prim.Native.Nat.{ℕ, zero, suc, _+_, _-_, _*_, _/_, _%_, _≤_, _<_, min}
+use Prim.Native.Nat.{ℕ, _+_, _-_, _/_, _%_, _≤_, _<_}
 use mathlib.Core.Path.{_≡_, refl, sym, ap, _∙_}
-use mathlib.Core.Option.{Option, none, some, Option·map}
-use mathlib.Core.List.{List, [], _∷_}
-use mathlib.Core.Bool.{Bool, true, false, _&&_, _||_, true≢false, false≢true}
+use mathlib.Core.Option.{Option, none, some}
+use mathlib.Core.List.{List, _∷_}
+use mathlib.Core.Bool.{true, false, _&&_, _||_, false≢true}
 use mathlib.Core.Logic.{_⊎_, inl, inr}
 use native.Mathlib.Omega.{arith}
 use lib.Dec.{leb, ltb}
 use lib.ListN.{length, getD}
 use borrow.Author.Tests.{ltb-false, ltb-true, leb-true}
-use Rattle.paper.specs.Answer.{Said, answer, guard, _then_, Wrote, Outside, BadStart}
+use Rattle.paper.specs.Answer.{answer, _then_, Wrote, Outside, BadStart}
 use Rattle.paper.specs.Image.{Map, byte-after, overlay, check-image}
-use Rattle.paper.specs.Diff.{Head, rest, content-of, address-of, check, seek, named-by, named, names-outside}
+use Rattle.paper.specs.Diff.{Head, rest, content-of, address-of, check, named-by, named, names-outside}
 use Rattle.paper.specs.Volume.{run-end, run, Stretch, covers, Runs, no-run, one-more}
-use Rattle.paper.specs.Merge.{second-else-first, merged}
 use Rattle.paper.specs.History.{Mixed}
 use Rattle.paper.proofs.Bools.{Which, holds, fails, which, and-true-left, and-true-right}
-use Rattle.paper.proofs.Answers.{answer-injective, Passed, guard-answer, Both, then-answer}
+use Rattle.paper.proofs.Answers.{answer-injective, guard-answer, then-answer}
 use Rattle.paper.proofs.Images.{overlay-length, overlay-at}
 use Rattle.paper.proofs.Overlay.{is-overlay}
 use Rattle.paper.proofs.Check.{Sound, sound, passes}
-use Rattle.paper.proofs.Names.{Sought, Named-by, named-by-sound, named-by-found, named-by-none, seek-record, named-sound, names-record}
+use Rattle.paper.proofs.Names.{named-by-sound, named-by-found, seek-record, named-sound, names-record}
 
 -- f gives some blocks what F gives them, and no others anything
 abbrev pub Part : Map → Map → Type 0

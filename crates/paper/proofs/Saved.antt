@@ -1,19 +1,19 @@
 -- A state record: what is written is read back, and what is read was good. Each field stands where its width puts it.
-use Prim.Native.Nat.{ℕ, _+_, _≤_, _<_, _^_}
-use mathlib.Core.Path.{_≡_, refl, sym, ap, _∙_}
+use Prim.Native.Nat.{ℕ, _+_}
+use mathlib.Core.Path.{_≡_, refl}
 use mathlib.Core.List.{List, [], _∷_, _++_, append-assoc, append-nil}
-use mathlib.Core.Bool.{Bool, true, false, not, _||_}
+use mathlib.Core.Bool.{not, _||_}
 use native.Mathlib.Omega.{arith}
 use lib.Dec.{eqb}
 use lib.ListN.{length, getD, length-append}
-use Rattle.paper.specs.Limits.{max-gid, state-size, state-mark}
+use Rattle.paper.specs.Limits.{state-size, state-mark}
 use Rattle.paper.specs.Number.{spelled, field, opens}
-use Rattle.paper.specs.Answer.{Said, answer, guard, BadState}
-use Rattle.paper.specs.State.{State, bad-state, state-of, state-bytes, bad-record, read-state}
+use Rattle.paper.specs.Answer.{answer, BadState}
+use Rattle.paper.specs.State.{State, state-of, state-bytes, bad-record, read-state}
 use Rattle.paper.proofs.Bools.{or-false-right}
-use Rattle.paper.proofs.Answers.{answer-injective, Passed, guard-answer}
+use Rattle.paper.proofs.Answers.{answer-injective, guard-answer}
 use Rattle.paper.proofs.Numbers.{spelled-length, field-at}
-use Rattle.paper.proofs.States.{Fits-kind, is-settled, is-span, is-pair, Good-state, good-of, good-back}
+use Rattle.paper.proofs.States.{Good-state, good-of, good-back}
 
 -- a state that is read is good
 pub read-good : {s : State} (r : List ℕ) → read-state r ≡ answer s → Good-state s

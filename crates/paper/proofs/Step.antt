@@ -2,8 +2,8 @@
 use Prim.Native.Nat.{ℕ, _≤_, _<_, max}
 use mathlib.Core.Path.{_≡_, refl, sym, ap, _∙_}
 use mathlib.Core.List.{List, [], _∷_}
-use mathlib.Core.Bool.{Bool, true, false, not, _&&_, So, false≢true, and-false, and-eq-true-iff}
-use lib.Dec.{leb, eqb}
+use mathlib.Core.Bool.{Bool, true, false, not, _&&_, So, false≢true, and-eq-true-iff}
+use lib.Dec.{leb}
 use native.Mathlib.Omega.{arith}
 use borrow.Author.Tests.{leb-false, lt-leb, not-true, eqb-true}
 use Rattle.paper.specs.Answer.{Said, answer, refuse, guard, _then_, NoChain}
@@ -11,7 +11,7 @@ use Rattle.paper.specs.Diff.{Head}
 use Rattle.paper.specs.State.{State, settled, is-clean}
 use Rattle.paper.specs.Volume.{Further, done-state, decide-on}
 use Rattle.paper.specs.Plan.{Shelf, entry, follow, at-target, ends-at, is-plan}
-use Rattle.paper.proofs.Decisions.{Decided, decided}
+use Rattle.paper.proofs.Decisions.{decided}
 
 -- ---- an accepted apply
 

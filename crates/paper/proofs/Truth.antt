@@ -1,10 +1,10 @@
 -- One apply keeps a state true. A byte that the diff names becomes that of H(q). One that it does not name was not written from p to q − 1,
 -- so that it is the same in each image from H(b) to H(q); or it is of a later gid, which e still covers.
-use Prim.Native.Nat.{ℕ, suc, _+_, _-_, _*_, _/_, _%_, _≤_, _<_, max, min}
-use mathlib.Core.Path.{_≡_, refl, sym, ap, _∙_}
-use mathlib.Core.Option.{Option, none, some}
+use Prim.Native.Nat.{ℕ, _-_, _/_, _%_, _≤_, _<_, max, min}
+use mathlib.Core.Path.{_≡_, sym, ap, _∙_}
+use mathlib.Core.Option.{none, some}
 use mathlib.Core.List.{List, []}
-use mathlib.Core.Bool.{Bool, true, false, cond}
+use mathlib.Core.Bool.{true, false}
 use mathlib.Core.Logic.{_⊎_, inl, inr}
 use native.Mathlib.Omega.{arith}
 use native.Mathlib.Decide.{decLe, decLt}
@@ -22,7 +22,7 @@ use Rattle.paper.specs.History.{History, writes-in, logged, true-map, Tr
 use Rattle.paper.proofs.Bools.{Which, holds, fails, which}
 use Rattle.paper.proofs.Images.{overlay-length, overlay-at, block-length, byte-of-block, bytes-of-equal-blocks, same-true}
 use Rattle.paper.proofs.Histories.{unwritten, written-inside, logged-merge}
-use Rattle.paper.proofs.States.{Good-state, good-back, Fits-kind, is-settled, is-span, is-pair, Ordered, ordered, Clean, clean-of}
+use Rattle.paper.proofs.States.{Good-state, good-back, Fits-kind, ordered, Clean, clean-of}
 use Rattle.paper.proofs.Decisions.{Why, log, from-clean, from-pair, Accepted, Pair-from, was-clean, same-pair, pair-from, pair-top, while-good, done-good}
 
 -- byte i of x is that of H(u) for some u from lo to hi

@@ -1,25 +1,25 @@
 -- A read-through shows block a as it stands after the apply: the record's content where one names a, else the image's own block.
-use Prim.Native.Nat.{ℕ, _+_, _*_, _/_, _≤_, _<_}
+use Prim.Native.Nat.{ℕ, _+_, _*_, _≤_, _<_}
 use mathlib.Core.Path.{_≡_, refl, sym, ap, _∙_}
-use mathlib.Core.Option.{Option, none, some, Option·map}
+use mathlib.Core.Option.{Option, none, some}
 use mathlib.Core.List.{List}
-use mathlib.Core.Bool.{Bool, _||_}
+use mathlib.Core.Bool.{_||_}
 use native.Mathlib.Omega.{arith}
 use lib.Dec.{leb}
 use lib.ListN.{length, take, drop}
 use lib.Seq.{drop-drop}
 use borrow.Author.Tests.{leb-false}
 use Rattle.paper.specs.Limits.{block-bytes}
-use Rattle.paper.specs.Answer.{Said, answer, guard, _then_, Outside}
+use Rattle.paper.specs.Answer.{answer, _then_, Outside}
 use Rattle.paper.specs.Image.{check-image, block, overlay}
 use Rattle.paper.specs.Diff.{Head, rest, content-of, check, seek, named-by, named, names-outside}
-use Rattle.paper.specs.Volume.{View, in-diff, in-image, shown, view-of, read-through}
+use Rattle.paper.specs.Volume.{View, shown, view-of, read-through}
 use Rattle.paper.proofs.Bools.{or-false-right}
-use Rattle.paper.proofs.Answers.{answer-injective, Passed, guard-answer, Both, then-answer}
+use Rattle.paper.proofs.Answers.{answer-injective, guard-answer, then-answer}
 use Rattle.paper.proofs.Images.{image-blocks}
 use Rattle.paper.proofs.Overlay.{unnamed-stays, named-becomes}
 use Rattle.paper.proofs.Check.{Sound, sound}
-use Rattle.paper.proofs.Names.{seek-sound, Fits, sound-fits}
+use Rattle.paper.proofs.Names.{sound-fits}
 
 -- the content of record i, by its place in the diff
 pub content-place : (d : List ℕ) (i : ℕ) → take 512 (drop (24 + 518 * i + 6) d) ≡ content-of (rest d i)

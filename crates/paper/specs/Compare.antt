@@ -1,6 +1,6 @@
 -- 01, "Moves of a volume": a comparison of two images.
 use Prim.Native.Nat.{ℕ}
-use mathlib.Core.Option.{Option, none, some}
+use mathlib.Core.Option.{none, some}
 use mathlib.Core.List.{List}
 use mathlib.Core.Bool.{cond, not, _||_}
 use lib.Dec.{eqb}

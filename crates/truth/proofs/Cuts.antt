@@ -1,24 +1,22 @@
 -- Right after a cut the diff that was cut is accepted, and so is any merge that contains it: it starts no later and ends no earlier,
 -- it is true, and so names no block outside. A compared diff is contained in itself alone, and While is then the pair that it asks for.
-use Prim.Native.Nat.{ℕ, _/_, _*_, _≤_, _<_, max}
-use mathlib.Core.Path.{_≡_, refl, sym, ap, _∙_}
-use mathlib.Core.Option.{some}
+use Prim.Native.Nat.{ℕ, _≤_}
+use mathlib.Core.Path.{_≡_, refl, _∙_}
 use mathlib.Core.List.{List}
 use mathlib.Core.Bool.{true, false}
 use mathlib.Core.Logic.{_⊎_, inl, inr}
 use native.Mathlib.Omega.{arith}
-use lib.ListN.{length}
 use Rattle.paper.specs.Answer.{answer}
 use Rattle.paper.specs.Image.{check-image}
-use Rattle.paper.specs.Diff.{Head, is-compared, check, named, names-outside}
-use Rattle.paper.specs.State.{State, read-state}
+use Rattle.paper.specs.Diff.{Head, is-compared, names-outside}
+use Rattle.paper.specs.State.{State}
 use Rattle.paper.specs.Volume.{is-pair-while, while-state}
 use Rattle.paper.specs.History.{History, True-diff}
 use Rattle.paper.proofs.Images.{image-blocks, same-length-image}
-use Rattle.paper.proofs.Check.{Sound, sound, Good-head, good-head}
+use Rattle.paper.proofs.Check.{sound, good-head}
 use Rattle.paper.proofs.Names.{outside-names}
 use Rattle.paper.proofs.Decisions.{Why, log, from-clean, from-pair, Accepted}
-use Rattle.paper.proofs.Applies.{Applies, Decides, decides, decide-accepts}
+use Rattle.paper.proofs.Applies.{decides, decide-accepts}
 use Rattle.paper.proofs.Truth.{true-inside}
 use Rattle.truth.specs.Story.{Volume, True-volume, Is-accepted}
 use Rattle.truth.proofs.Moves.{Cut-leaves, accepted-of, cut-reads}

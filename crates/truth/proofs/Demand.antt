@@ -1,23 +1,22 @@
 -- Demand 3: by induction on the story. A merge of true log diffs is true, so all diffs at hand are; each move keeps the volume true.
-use Prim.Native.Nat.{ℕ, _≤_, _<_, min}
+use Prim.Native.Nat.{ℕ, _<_}
 use mathlib.Core.Path.{_≡_, refl, sym, ap, _∙_}
-use mathlib.Core.List.{List, [], _∷_}
-use mathlib.Core.Bool.{true, false}
+use mathlib.Core.List.{List}
+use mathlib.Core.Bool.{true}
 use mathlib.Core.Logic.{inl, inr}
 use native.Mathlib.Omega.{arith}
 use Rattle.paper.specs.Answer.{answer, Wrote}
 use Rattle.paper.specs.Image.{block}
 use Rattle.paper.specs.Diff.{Head, log-head, counted, check, named}
-use Rattle.paper.specs.State.{State, is-clean, read-state}
 use Rattle.paper.specs.Merge.{merge, merged}
 use Rattle.paper.specs.History.{History, True-diff, True-state}
 use Rattle.paper.proofs.Answers.{answer-injective}
 use Rattle.paper.proofs.Check.{sound, Good-head, good-head}
-use Rattle.paper.proofs.States.{Ordered, ordered}
+use Rattle.paper.proofs.States.{ordered}
 use Rattle.paper.proofs.Saved.{read-good}
-use Rattle.paper.proofs.Merging.{Touching, Merge-of, merge-of}
+use Rattle.paper.proofs.Merging.{Touching, merge-of}
 use Rattle.paper.proofs.Truth.{clean-image, merged-true}
-use Rattle.truth.specs.Story.{Volume, True-volume, Have, given, by-merge, Contains, itself, as-first, as-second, Cut, Story, begun, then-move, Unnamed, Is-accepted, Holds, Demand-three}
+use Rattle.truth.specs.Story.{Volume, True-volume, Have, given, by-merge, Contains, itself, as-first, as-second, Story, begun, then-move, Unnamed, Demand-three}
 use Rattle.truth.proofs.Moves.{cut-leaves, move-true, move-untouched}
 use Rattle.truth.proofs.Cuts.{Wider, wider-accepted}
 

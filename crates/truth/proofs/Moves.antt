@@ -1,24 +1,24 @@
 -- One move keeps a volume true: it is a finished apply, whose image is the overlay of the diff's map, or a cut one, whose image is a mix.
 -- Runs leave one or the other.
-use Prim.Native.Nat.{ℕ, _≤_, _<_}
+use Prim.Native.Nat.{ℕ}
 use mathlib.Core.Path.{_≡_, refl, sym, ap, _∙_}
 use mathlib.Core.Option.{none}
-use mathlib.Core.List.{List, [], _∷_}
+use mathlib.Core.List.{List}
 use mathlib.Core.Logic.{inl}
-use Rattle.paper.specs.Answer.{answer, Wrote}
+use Rattle.paper.specs.Answer.{answer}
 use Rattle.paper.specs.Image.{block, overlay}
-use Rattle.paper.specs.Diff.{Head, head-of, check, named}
-use Rattle.paper.specs.State.{State, state-bytes, read-state}
-use Rattle.paper.specs.Volume.{Further, while-state, done-state, decide, Stretch, covers, Runs}
-use Rattle.paper.specs.History.{History, True-diff, True-state, Mixed}
+use Rattle.paper.specs.Diff.{Head, check, named}
+use Rattle.paper.specs.State.{state-bytes, read-state}
+use Rattle.paper.specs.Volume.{Further, while-state, done-state, decide, Runs}
+use Rattle.paper.specs.History.{History, True-diff, Mixed}
 use Rattle.paper.proofs.Answers.{answer-injective}
-use Rattle.paper.proofs.Check.{Sound, sound, Good-head, good-head}
+use Rattle.paper.proofs.Check.{sound, Good-head, good-head}
 use Rattle.paper.proofs.Overlay.{unnamed-stays, mixed-stays}
 use Rattle.paper.proofs.Runs.{runs-as-apply, runs-mixed, cut-run-mixed}
 use Rattle.paper.proofs.States.{Good-state}
 use Rattle.paper.proofs.Saved.{read-good, saved-reads}
 use Rattle.paper.proofs.Decisions.{Accepted, further, while-good, done-good}
-use Rattle.paper.proofs.Applies.{Applies, Decides, decides, Does, does}
+use Rattle.paper.proofs.Applies.{Applies, decides, does}
 use Rattle.paper.proofs.Truth.{done-true, while-true}
 use Rattle.truth.specs.Story.{Volume, True-volume, Cut, cut-apply, cut-run, Finish, at-once, in-runs, Move, finished, cut}
 

@@ -23,7 +23,7 @@ use Rattle.paper.proofs.Parts.{head-length}
 use Rattle.paper.proofs.Check.{sound}
 use Rattle.paper.proofs.Names.{unnamed, named-as, seen, named-by-here, outside-names}
 use Rattle.paper.proofs.Meaning.{stands}
-use Rattle.paper.proofs.States.{is-settled, is-span, is-pair}
+use Rattle.paper.proofs.States.{is-span, is-pair}
 use Rattle.paper.proofs.Decisions.{log, Accepted}
 use Rattle.paper.proofs.Truth.{done-true, while-true, clean-image, true-inside}
 use Rattle.paper.proofs.Saved.{saved-reads}

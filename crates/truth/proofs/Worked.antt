@@ -13,12 +13,12 @@ use lib.Dec.{ltb}
 use lib.ListN.{length, getD}
 use Rattle.paper.specs.Answer.{answer, Wrote}
 use Rattle.paper.specs.Image.{block, overlay}
-use Rattle.paper.specs.Diff.{log-head, head-of, named-by, named, written}
+use Rattle.paper.specs.Diff.{log-head, named-by, named, written}
 use Rattle.paper.specs.State.{clean, pair, span, is-clean, state-bytes, read-state}
 use Rattle.paper.specs.Volume.{Further, exact, while-state, done-state, is-pair-while, decide-on, decide, apply, run-end, run, Stretch, covers, Runs, no-run, one-more}
 use Rattle.paper.specs.Merge.{merged, merge}
 use Rattle.paper.specs.History.{writes-in, logged, true-map, True-diff}
-use Rattle.paper.proofs.Check.{Sound, sound}
+use Rattle.paper.proofs.Check.{sound}
 use Rattle.paper.proofs.Names.{named-sound}
 use Rattle.paper.proofs.Runs.{runs-as-apply}
 use Rattle.paper.proofs.Images.{overlay-length, overlay-at, block-at}
