@@ -1,11 +1,11 @@
 -- What the check of a diff answers, case by case: the head's refusal; where the head passes, the length's; then that of the records.
-use Prim.Native.Nat.{ℕ, _+_, _*_, _≤_, _<_}
-use mathlib.Core.Path.{_≡_, refl, sym, ap, _∙_}
+use Prim.Native.Nat.{ℕ, _≤_, _<_}
+use mathlib.Core.Path.{_≡_}
 use mathlib.Core.List.{List}
 use native.Mathlib.Omega.{arith}
 use lib.ListN.{length}
 use borrow.Author.Tests.{lt-ltb, le-ltb}
-use Rattle.paper.specs.Answer.{Said, answer, refuse, CutOff, Tail}
+use Rattle.paper.specs.Answer.{answer, refuse, CutOff, Tail}
 use Rattle.paper.specs.Diff.{Head, diff-size, check-records, read-head, check}
 
 module _ (d : List ℕ) where

@@ -1,12 +1,12 @@
 -- Bytes stored one after another are bytes put at a place.
-use Prim.Native.Nat.{ℕ, zero, suc, _+_, _/_, _%_, _≤_, _<_}
+use Prim.Native.Nat.{ℕ, suc, _+_, _/_, _%_, _≤_, _<_}
 use mathlib.Core.Path.{_≡_, refl, sym, ap, ap₂, _∙_}
 use mathlib.Core.List.{List, [], _∷_, _++_, append-assoc, append-nil}
 use native.Mathlib.Numerals.{add-one, towards-suc}
 use native.Mathlib.Nat.{add-zero}
 use native.Mathlib.Omega.{arith}
 use lib.ListN.{length, getD, take, drop, set, length-append, length-take, length-drop, take-append-drop}
-use lib.Seq.{drop-cons, take-suc, set-at, sets, sets-eq, take-at, drop-at, drop-drop, drop-append-le, length-take-le}
+use lib.Seq.{drop-cons, take-suc, set-at, sets-eq, take-at, drop-at, drop-drop, length-take-le}
 use Rattle.paper.specs.Number.{spelled}
 use Rattle.paper.proofs.Numbers.{spelled-length}
 use Rattle.number.specs.Put.{put}

@@ -1,22 +1,21 @@
 -- The walk over a diff's records: what is left to check, or to look through, is the same whole answer at every turn.
 use Prim.Native.Nat.{ℕ, suc, _+_, _-_, _*_, _≤_, _<_}
 use mathlib.Core.Path.{_≡_, refl, sym, ap, _∙_}
-use mathlib.Core.Option.{Option, none, some}
+use mathlib.Core.Option.{none, some}
 use mathlib.Core.List.{List}
-use mathlib.Core.Bool.{true, false}
+use mathlib.Core.Bool.{false}
 use native.Mathlib.Numerals.{add-one}
 use native.Mathlib.Nat.{sub-zero}
 use native.Mathlib.Omega.{arith}
-use lib.Dec.{leb, eqb}
+use lib.Dec.{leb}
 use lib.ListN.{length, take, drop, length-drop}
 use lib.Seq.{take-all}
 use borrow.Author.Tests.{eq-eqb, ne-eqb}
 use Rattle.paper.specs.Limits.{block-bytes}
-use Rattle.paper.specs.Answer.{Said, answer, refuse, _then_}
+use Rattle.paper.specs.Answer.{answer, refuse}
 use Rattle.paper.specs.Image.{block}
 use Rattle.paper.specs.Diff.{Head, rest, address-of, check-record, check-records, check, seek, names-outside}
-use Rattle.paper.proofs.Answers.{answer-injective}
-use Rattle.paper.proofs.Check.{Record-passed, record-sound, sound}
+use Rattle.paper.proofs.Check.{record-sound, sound}
 use Rattle.paper.proofs.Names.{outside-empty, outside-by-last}
 use Rattle.record.specs.declared.refusal.Refusal.{Refusal}
 use Rattle.record.specs.declared.block.Block.{Block}

@@ -1,7 +1,6 @@
 -- What a check of one block record says: its address.
 use Prim.Native.Nat.{ℕ}
 use Rattle.paper.specs.Answer.{Said, answer, refuse}
-use Rattle.record.specs.declared.block.Block.{Block}
 use Rattle.record.specs.declared.block.BlockSaid.{BlockSaid}
 use Rattle.record.specs.declared.block.BlockSaid.the-variants.{Sound, No}
 use Rattle.record.specs.Refusals.{number-of}

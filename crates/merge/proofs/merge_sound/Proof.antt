@@ -1,5 +1,4 @@
 -- One check after another in 01's order; where none refuses, the head and then the records are put, and nothing before.
-use native.Mathlib.Omega.{arith}
 use Rattle.record.specs.Heads.{head}
 use Rattle.merge.proofs.Answers.{compared-first, compared-second, apart, no-room, all-written}
 use borrow.Author.Needs.{needs}
