@@ -14,10 +14,12 @@ use Rattle.record.specs.declared.refusal.Refusal.the-variants.{NoChain}
 use Rattle.record.specs.Heads.{head}
 use Rattle.record.proofs.One.{one-refusal}
 use Rattle.plan.specs.declared.shelf.Shelf.{Shelf}
+use Rattle.plan.specs.declared.shelf.Entries.{Entries}
+use Rattle.plan.specs.declared.shelf.Entries.the-variants as entries
 use Rattle.plan.specs.declared.planning.PlanSaid.{PlanSaid}
 use Rattle.plan.specs.declared.planning.PlanSaid.the-variants.{Done, No}
 use Rattle.plan.specs.declared.planning.Plan.{Plan}
-use Rattle.plan.specs.Shelves.{shelf}
+use Rattle.plan.specs.Shelves.{shelf, said-entries}
 use Rattle.plan.specs.Plans.{said-plan, plan, but-for-list, Answers}
 
 -- ---- two answers that say the same are the same
@@ -34,10 +36,18 @@ one-list f one (a ∷ l) (b ∷ m) e =
     let rest : l ≡ m = one-list f one l m (cc) in
     cc
 
-one-shelf : (s t : Shelf) → shelf s ≡ shelf t → s ≡ t
+-- what an empty or a kept shelf is
+pub one-shelf : (s t : Shelf) → shelf s ≡ shelf t → s ≡ t
 one-shelf s t e =
     let heads = one-list head one-head (s .heads) (t .heads) (ap (λ v. v .heads) e) in
     λ i. record { heads = heads i; count = e i .count }
+
+-- what the check of the entries says
+pub one-entries : (r s : Entries) → said-entries r ≡ said-entries s → r ≡ s
+one-entries entries.Sound entries.Sound e = refl
+one-entries entries.Sound (entries.No s) e = cc
+one-entries (entries.No r) entries.Sound e = cc
+one-entries (entries.No r) (entries.No s) e = ap entries.No (one-refusal r s (cc))
 
 one-said : (r s : PlanSaid) → said-plan r ≡ said-plan s → r ≡ s
 one-said Done Done e = refl

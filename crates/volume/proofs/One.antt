@@ -7,7 +7,7 @@ use denote.Ref.{RefT, ptr, now}
 use Rattle.paper.specs.Answer.{answer, comes-back, over, number}
 use Rattle.paper.specs.Diff as Diff
 use Rattle.paper.specs.State as Paper
-use Rattle.paper.specs.Volume.{decide-on, decide, apply, run, read-through, seen, lag}
+use Rattle.paper.specs.Volume.{done-state, decide-on, decide, apply, run, read-through, seen, lag}
 use Rattle.paper.proofs.Answers.{answer-injective}
 use Rattle.record.specs.declared.state.State.{State}
 use Rattle.record.specs.declared.state.StateSaid.the-variants.{Sound}
@@ -79,6 +79,9 @@ one-gids (lag-said.No r) (lag-said.No s) e = ap lag-said.No (one-refusal r s (cc
 
 pub one-decide-on : (h : Diff.Head) (s : Paper.State) (r r′ : Decision) → said-decision r ≡ decide-on h s → said-decision r′ ≡ decide-on h s → r ≡ r′
 one-decide-on h s r r′ e f = one-decision r r′ (e ∙ sym f)
+
+pub one-done-state : (h : Diff.Head) (s : Paper.State) (r r′ : Done) → done r ≡ done-state h s → done r′ ≡ done-state h s → r ≡ r′
+one-done-state h s r r′ e f = one-done r r′ (e ∙ sym f)
 
 pub one-decide : (d saved img : List ℕ) (r r′ : Decision) → said-decision r ≡ decide d saved img → said-decision r′ ≡ decide d saved img → r ≡ r′
 one-decide d saved img r r′ e f = one-decision r r′ (e ∙ sym f)
