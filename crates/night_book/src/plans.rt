@@ -37,15 +37,14 @@ fn full(h: Head, count: usize) -> Shelf {
     }
 }
 
+// A shelf that opens with the two entries given, of which so many are counted.
+fn opening(a: Head, b: Head, count: usize) -> Shelf {
+    shelf_of(a, b, entry(0, 4, 6), entry(0, 6, 9), count)
+}
+
 // "Shelf log 0→4, compared 4→9, log 4→6, log 6→9"
 fn night() -> Shelf {
-    shelf_of(
-        entry(0, 0, 4),
-        entry(1, 4, 9),
-        entry(0, 4, 6),
-        entry(0, 6, 9),
-        4,
-    )
+    opening(entry(0, 0, 4), entry(1, 4, 9), 4)
 }
 
 // The plan from a state to a target: its length, its first four places, and the count of the shelf that it keeps.
@@ -111,37 +110,19 @@ pub fn ends() {
     let top: u64 = 9_223_372_036_854_775_807;
     planned(
         b"no entry, clean 7 to 7",
-        shelf_of(
-            entry(0, 0, 4),
-            entry(0, 4, 9),
-            entry(0, 4, 6),
-            entry(0, 6, 9),
-            0,
-        ),
+        opening(entry(0, 0, 4), entry(0, 4, 9), 0),
         State::clean(7),
         7,
     );
     planned(
         b"no entry, clean 0 to 9",
-        shelf_of(
-            entry(0, 0, 4),
-            entry(0, 4, 9),
-            entry(0, 4, 6),
-            entry(0, 6, 9),
-            0,
-        ),
+        opening(entry(0, 0, 4), entry(0, 4, 9), 0),
         State::clean(0),
         9,
     );
     planned(
         b"two places filled, one counted",
-        shelf_of(
-            entry(0, 0, 4),
-            entry(0, 4, 9),
-            entry(0, 4, 6),
-            entry(0, 6, 9),
-            1,
-        ),
+        opening(entry(0, 0, 4), entry(0, 4, 9), 1),
         State::clean(0),
         9,
     );
@@ -176,25 +157,13 @@ pub fn ends() {
 pub fn bad() {
     planned(
         b"an entry of kind 2",
-        shelf_of(
-            entry(0, 0, 4),
-            entry(2, 4, 9),
-            entry(0, 4, 6),
-            entry(0, 6, 9),
-            4,
-        ),
+        opening(entry(0, 0, 4), entry(2, 4, 9), 4),
         State::clean(0),
         9,
     );
     planned(
         b"a bad entry past the count",
-        shelf_of(
-            entry(0, 0, 9),
-            entry(2, 4, 9),
-            entry(0, 4, 6),
-            entry(0, 6, 9),
-            1,
-        ),
+        opening(entry(0, 0, 9), entry(2, 4, 9), 1),
         State::clean(0),
         9,
     );

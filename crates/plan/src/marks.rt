@@ -21,7 +21,7 @@ ghost use Rattle.plan.specs.Shelves.{shelf};
 ghost use Rattle.plan.specs.Search.{To-sweep, To-walk};
 
 // "clean at the target"
-pub fn at_target(s: State, target: u64) -> bool
+pub(crate) fn at_target(s: State, target: u64) -> bool
     ensures { λ r. ⌜ r ≡ at-target (state s) target ⌝ }
 {
     if !s.is_clean() {
@@ -45,7 +45,7 @@ fn leads(h: Head, s: State, mark: bool) -> bool
 }
 
 // The lowest place that is accepted at s and marked.
-pub fn lead(on: Shelf, s: State, marks: [bool; PLACES]) -> Found
+pub(crate) fn lead(on: Shelf, s: State, marks: [bool; PLACES]) -> Found
     requires { ⌜ on .count ≤ 96 ⌝ }
     ensures { λ r. ⌜ said-found r ≡ lead (shelf on) (state s) (marked marks) ⌝ }
 {
@@ -107,7 +107,7 @@ fn sweep(on: Shelf, start: State, target: u64, old: [bool; PLACES]) -> Pass
 }
 
 // Sweeps until one sets no mark: each of the others sets one, so there are at most count + 1.
-pub fn mark(on: Shelf, start: State, target: u64) -> [bool; PLACES]
+pub(crate) fn mark(on: Shelf, start: State, target: u64) -> [bool; PLACES]
     requires { ⌜ on .count ≤ 96 ⌝ }
     ensures { λ r. ⌜ To-walk (shelf on) (start .e) target r ⌝ }
 {

@@ -10,7 +10,7 @@ ghost use Rattle.record.specs.Heads.{head};
 ghost use Rattle.volume.specs.Writes.{Writable};
 
 // Writes records i up to, not including, `end` of d into img. Each copy gets the part of the image that starts at its block.
-pub fn write_records(d: &[u8], h: Head, i: usize, end: usize, img: &mut [u8])
+pub(crate) fn write_records(d: &[u8], h: Head, i: usize, end: usize, img: &mut [u8])
     requires { ⌜ Writable (now d) (head h) i end (now img) ⌝ }
     ensures { λ _. ⌜ now (img .exit) ≡ overlay (now (img .entry)) (named-by (now (d .entry)) i (end - i)) ⌝ }
 {
