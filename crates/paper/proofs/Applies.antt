@@ -9,7 +9,10 @@ use Rattle.paper.specs.Diff.{Head, check, named, names-outside}
 use Rattle.paper.specs.State.{State, read-state}
 use Rattle.paper.specs.Volume.{Further, decide, apply}
 use Rattle.paper.proofs.Answers.{answer-injective, guard-answer, then-answer}
-use Rattle.paper.proofs.Decisions.{Accepted, further, decided, accepts}
+use Rattle.paper.proofs.Check.{good-head, sound}
+use Rattle.paper.proofs.States.{Good-state}
+use Rattle.paper.proofs.Saved.{read-good}
+use Rattle.paper.proofs.Decisions.{Accepted, further, decided, accepts, while-good, done-good}
 
 -- every check of an apply passed
 pub record Applies (d state img : List ℕ) : Type 0 where
@@ -51,6 +54,19 @@ decides d state img e =
 pub decide-accepts : (d state img : List ℕ) (a : Applies d state img) → decide d state img ≡ answer (further (a .head) (a .from))
 unfolding decide
 decide-accepts d state img a = rw (a .diff, a .reads, a .image, a .inside) (accepts (a .head) (a .from) (a .accepted))
+
+-- both states of an accepted apply are states, so that their records are read back (`saved-reads`)
+pub record Good-further (f : Further) : Type 0 where
+  pub while : Good-state (f .while)
+  pub done : Good-state (f .done)
+
+pub further-good : {f : Further} (d state img : List ℕ) → decide d state img ≡ answer f → Good-further f
+further-good d state img e =
+    let c = decides d state img e in
+    let a = c .applies in
+    let top = good-head (sound (a .diff) .good) .q in
+    let from = read-good state (a .reads) in
+    rw (c .gives) (record { while = while-good (a .head) (a .from) top from (a .accepted); done = done-good (a .head) (a .from) top from })
 
 -- doing is deciding and writing every named block
 pub record Does (d state img : List ℕ) (w : Wrote State) : Type 0 where

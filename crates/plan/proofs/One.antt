@@ -72,7 +72,7 @@ one-plan-restore on saved target r r′ a b =
 
 -- ---- NoChain exactly where no list is a plan
 
-said-refuses : (said : Said (List ℕ)) (k : ℕ) → refuse k ≡ but-for-list said → said ≡ refuse k
+pub said-refuses : (said : Said (List ℕ)) (k : ℕ) → refuse k ≡ but-for-list said → said ≡ refuse k
 said-refuses (answer l) k e = cc
 said-refuses (refuse j) k e = cc
 

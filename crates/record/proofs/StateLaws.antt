@@ -71,7 +71,7 @@ module _ (s : State) (b : s .b ≤ max-gid) (t : s .t ≤ max-gid) (e : s .e ≤
   pair-apart k h = rw (only-kind, k, lt-ltb _ _ h)
 
 -- there is no kind above 2
-no-kind : (s : State) → 2 < s .kind → bad-state s ≡ true
+pub no-kind : (s : State) → 2 < s .kind → bad-state s ≡ true
 no-kind s h = bad-if s λ g. go (g .fits)
   where
     go : Fits-kind s → ⊥
@@ -114,7 +114,7 @@ pub write-short : (s : State) (room : ℕ) → bad-state s ≡ false → room < 
 unfolding write-state output
 write-short s room h k = rw (h, state-length, lt-ltb _ _ k)
 
-write-fits : (s : State) (room : ℕ) → bad-state s ≡ false → state-size ≤ room → write-state s room ≡ answer (wrote (state-bytes s))
+pub write-fits : (s : State) (room : ℕ) → bad-state s ≡ false → state-size ≤ room → write-state s room ≡ answer (wrote (state-bytes s))
 unfolding write-state
 write-fits s room h k = rw h (output-fits (state-bytes s) room (rw state-length k))
 

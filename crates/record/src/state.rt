@@ -17,7 +17,7 @@ pub enum Kind {
 
 impl Kind {
     // The kind that a record's byte stands for; a byte above 2 stands for none, and is refused before.
-    fn of(byte: u8) -> Kind
+    pub fn of(byte: u8) -> Kind
         requires { ⌜ byte ≤ 2 ⌝ }
         ensures { λ r. ⌜ kind-number r ≡ byte ⌝ }
     {
