@@ -61,7 +61,7 @@ uint32_t minnow_check(const uint8_t *diff, size_t diff_len, uint8_t *kind, uint6
 uint32_t minnow_read_state(const uint8_t *state, size_t state_len, uint8_t *kind, uint64_t *b, uint64_t *t, uint64_t *e);
 
 /* Writes a state's record where out opens, and its length, 28. Refusals 7, 17. */
-uint32_t minnow_write_state(uint8_t kind, uint64_t b, uint64_t t, uint64_t e, uint8_t *out, size_t out_len, size_t *length);
+uint32_t minnow_write_state(uint8_t kind, uint64_t b, uint64_t t, uint64_t e, uint8_t *out, size_t out_len, size_t *size);
 
 /* Decides an apply and writes no block: the While record goes to the front of `during`, the Done record to that of `done`.
  * Refusals: the diff's, 7, 8, 9, 11 to 14, then 17 where `during` or `done` has under 28 bytes. */
@@ -78,15 +78,15 @@ uint32_t minnow_apply(const uint8_t *diff, size_t diff_len, const uint8_t *state
  * Refusals: the diff's, 8, 9, 10. */
 uint32_t minnow_run(const uint8_t *diff, size_t diff_len, uint8_t *image, size_t image_len, size_t i, size_t k, size_t *next);
 
-/* Merges two log diffs that touch; the result goes to the front of out, its length to `length`.
+/* Merges two log diffs that touch; the result goes to the front of out, its length to `size`.
  * Refusals: the first diff's, the second's, 15, 16, 17. */
 uint32_t minnow_merge(const uint8_t *first, size_t first_len, const uint8_t *second, size_t second_len,
-                      uint8_t *out, size_t out_len, size_t *length);
+                      uint8_t *out, size_t out_len, size_t *size);
 
-/* Writes the compared diff from p to q of two images to the front of out, its length to `length`.
+/* Writes the compared diff from p to q of two images to the front of out, its length to `size`.
  * Refusals: 8, 3, 17. */
 uint32_t minnow_compare(const uint8_t *old_image, size_t old_len, const uint8_t *new_image, size_t new_len,
-                        uint64_t p, uint64_t q, uint8_t *out, size_t out_len, size_t *length);
+                        uint64_t p, uint64_t q, uint8_t *out, size_t out_len, size_t *size);
 
 /* Where block a stands after the apply of the diff: `slice` becomes MINNOW_IN_DIFF or MINNOW_IN_IMAGE, and the block is
  * the 512 bytes from byte `at` of that slice on. Refusals: the diff's, 8, 9. */
@@ -94,11 +94,11 @@ uint32_t minnow_read_through(const uint8_t *diff, size_t diff_len, const uint8_t
                              size_t a, uint32_t *slice, size_t *at);
 
 /* Plans a restore to the target gid over `count` heads of 24 bytes, back to back. Bytes past 24 * count have no part in
- * the answer. `places` has its first 96 numbers written: the list of places, then zeros; `length` becomes the list's.
+ * the answer. `places` has its first 96 numbers written: the list of places, then zeros; `size` becomes the list's.
  * Refusals: 18; for each entry in turn 1 (its 24 bytes are not there), 2, 3, 4; then 7, 20, 19, and 17 where `places` has
  * under 96. */
 uint32_t minnow_plan(const uint8_t *heads, size_t heads_len, size_t count, const uint8_t *state, size_t state_len,
-                     uint64_t target, size_t *places, size_t places_len, size_t *length);
+                     uint64_t target, size_t *places, size_t places_len, size_t *size);
 
 /* b minus the target gid: below zero, the volume is behind. Refusals 7, 20. */
 uint32_t minnow_lag(const uint8_t *state, size_t state_len, uint64_t target, int64_t *gids);

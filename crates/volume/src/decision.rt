@@ -177,9 +177,9 @@ impl While {
     pub fn state(self) -> State
         ensures { λ r. ⌜ state r ≡ while self ⌝ }
     {
-        let kind = self.kind;
+        let during = self.kind;
         State {
-            kind,
+            kind: during,
             b: self.b,
             t: self.t,
             e: self.e,
@@ -192,9 +192,9 @@ impl Done {
     pub fn state(self) -> State
         ensures { λ r. ⌜ state r ≡ done self ⌝ }
     {
-        let kind = self.kind;
+        let after = self.kind;
         State {
-            kind,
+            kind: after,
             b: self.b,
             t: self.t,
             e: self.e,
