@@ -2,11 +2,19 @@
  *
  * A slice crosses as a pointer and then a length (for bytes in bytes, for places in places).
  * Each call answers 0 (MINNOW_DONE) or the number of a refusal, from the table below. What else a call gives it writes
- * through the pointers that are not const. A refusal changes nothing that they point to. Any bytes may be given as a
- * diff, a state, an image or heads: they are checked, and no order of calls is asked for.
+ * through the pointers that are not const; a result goes to the front of the slice lent for it, and what lies beyond the
+ * result stays. A refusal changes nothing that they point to. Any bytes may be given as a diff, a state, an image or
+ * heads: they are checked.
  *
- * What the caller owes: pointers that are valid for their lengths and aligned for their types, also where a length is 0
- * (any non-null aligned pointer then), and no pointer that is written through overlaps any other memory handed over.
+ * What the caller owes for the memory: pointers that are valid for their lengths and aligned for their types, also where a
+ * length is 0 (any non-null aligned pointer then); no pointer that is written through overlaps any other memory handed
+ * over; and nothing else writes to that memory while the call runs, as another thread or a mapped file might.
+ *
+ * What the caller owes for a volume: decide; save the While record whole before the first byte of the image moves; apply,
+ * or run until all records are written; make the image durable; then save the Done record. A cut at any moment then leaves
+ * a state that is true of the volume, and the diff that was cut is accepted again.
+ *
+ * Stack: a comparison uses about 64 KiB, a plan about 16 KiB, the others little.
  */
 #ifndef MINNOW_H
 #define MINNOW_H
@@ -54,7 +62,7 @@ enum { MINNOW_IN_DIFF = 0, MINNOW_IN_IMAGE = 1 };                   /* where a r
 #define MINNOW_PLACES 96u           /* places of a shelf, and of a plan */
 #define MINNOW_MAX_GID UINT64_C(9223372036854775807)
 
-/* Checks a diff: kind, p, q and the number of blocks of its head. Refusals 1 to 6. */
+/* Checks a diff whole, and hands out kind, p, q and the number of blocks of its head. Refusals 1 to 6. */
 uint32_t minnow_check(const uint8_t *diff, size_t diff_len, uint8_t *kind, uint64_t *p, uint64_t *q, uint32_t *n);
 
 /* Reads a state record. Refusal 7. */
@@ -74,8 +82,8 @@ uint32_t minnow_decide(const uint8_t *diff, size_t diff_len, const uint8_t *stat
 uint32_t minnow_apply(const uint8_t *diff, size_t diff_len, const uint8_t *state, size_t state_len,
                       uint8_t *image, size_t image_len, uint8_t *done, size_t done_len);
 
-/* Writes records i up to the smaller of i + k and n into the image; `next` becomes that number. It looks at no state.
- * Refusals: the diff's, 8, 9, 10. */
+/* Writes records i up to the smaller of i + k and n into the image; `next` becomes that number. Records count from 0, the
+ * end is left out, the sum does not wrap. It looks at no state. Refusals: the diff's, 8, 9, 10. */
 uint32_t minnow_run(const uint8_t *diff, size_t diff_len, uint8_t *image, size_t image_len, size_t i, size_t k, size_t *next);
 
 /* Merges two log diffs that touch; the result goes to the front of out, its length to `size`.
@@ -94,7 +102,9 @@ uint32_t minnow_read_through(const uint8_t *diff, size_t diff_len, const uint8_t
                              size_t a, uint32_t *slice, size_t *at);
 
 /* Plans a restore to the target gid over `count` heads of 24 bytes, back to back. Bytes past 24 * count have no part in
- * the answer. `places` has its first 96 numbers written: the list of places, then zeros; `size` becomes the list's.
+ * the answer. The plan is the first list in dictionary order of places, counted from 0, whose diffs are accepted in turn and
+ * end clean at the target. `places` has its first 96 numbers written, the list and then zeros; `size` becomes the number
+ * of places in the list.
  * Refusals: 18; for each entry in turn 1 (its 24 bytes are not there), 2, 3, 4; then 7, 20, 19, and 17 where `places` has
  * under 96. */
 uint32_t minnow_plan(const uint8_t *heads, size_t heads_len, size_t count, const uint8_t *state, size_t state_len,

@@ -1,4 +1,4 @@
--- What a decision and an apply leave where their states cross as records: "NoRoom where the lent bytes are too few, checked last".
+-- What a decision and an apply leave where their states cross as records: NoRoom, where too few bytes are lent, is checked last.
 -- Both states of an accepted apply are states, so writing their records is never refused for them.
 use Prim.Native.Nat.{ℕ, _≤_, _<_}
 use mathlib.Core.Path.{_≡_, refl, sym, ap, _∙_}
@@ -7,7 +7,7 @@ use mathlib.Core.Bool.{true, false}
 use lib.ListN.{length}
 use borrow.Author.Tests.{lt-ltb, le-ltb}
 use Rattle.paper.specs.Limits.{state-size}
-use Rattle.paper.specs.Answer.{Said, answer, refuse, guard, _then_, Wrote, comes-back, over, NoRoom}
+use Rattle.paper.specs.Answer.{Said, answer, refuse, guard, _then_, Wrote, comes-back, onto, over, NoRoom}
 use Rattle.paper.specs.State as Paper
 use Rattle.paper.specs.State.{state-bytes, write-state}
 use Rattle.paper.specs.Volume.{Further, decide, apply}
@@ -24,7 +24,7 @@ use Rattle.volume.specs.declared.decision.Decision.the-variants.{Accepted, Refu
 use Rattle.volume.specs.declared.doing.Applied.{Applied}
 use Rattle.volume.specs.declared.doing.Applied.the-variants as applied
 use Rattle.volume.specs.Decisions.{while, done, said-decision, said-applied}
-use Rattle.desk.specs.Rows.{onto, decide-records, further-row, apply-record, applied-row}
+use Rattle.desk.specs.Rows.{decide-records, further-row, apply-record, applied-row}
 
 -- a state's record where a slice with room for it opens
 recorded : (s : Paper.State) (old new : List ℕ) → Good-state s → state-size ≤ length old → new ≡ over old (write-state s (length old)) → new ≡ onto (state-bytes s) old

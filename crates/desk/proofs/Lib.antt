@@ -2,5 +2,6 @@
 pub mod Rows
 pub mod Deciding
 pub mod Shelving
+pub mod Crossing
 pub mod Planning
 pub mod One

@@ -21,7 +21,7 @@ use Rattle.record.specs.declared.head.HeadSaid.the-variants.{Sound, No}
 use Rattle.record.specs.declared.refusal.Refusal.{Refusal}
 use Rattle.record.specs.Refusals.{number-of}
 use Rattle.record.specs.Heads.{head, said-head}
-use Rattle.record.proofs.Walk.{part-all}
+use Rattle.number.proofs.Puts.{part-all}
 use Rattle.plan.specs.Shelves.{shelf, empty}
 use Rattle.plan.specs.declared.shelf.Shelf.{Shelf}
 use Rattle.plan.proofs.Fills.{fill-one, map-set}

@@ -1,20 +1,15 @@
 -- The outcome of each call of the C face, as a row: the answered number, then what everything that was lent for writing holds afterwards, in the order of the call's parameters.
 -- "Zero means done. A refusal gives its number alone .. and changes no lent byte": so a refusal's row ends in what was there.
 use Prim.Native.Nat.{ℕ}
-use mathlib.Core.List.{List, _++_}
+use mathlib.Core.List.{List}
 use mathlib.Core.Bool.{_||_}
 use lib.Dec.{ltb}
 use lib.IntN.{ℤ}
-use lib.ListN.{length, drop}
 use Rattle.paper.specs.Limits.{state-size}
-use Rattle.paper.specs.Answer.{Said, answer, refuse, guard, _then_, Wrote, NoRoom}
+use Rattle.paper.specs.Answer.{Said, answer, refuse, guard, _then_, Wrote, onto, NoRoom}
 use Rattle.paper.specs.Diff.{Head}
 use Rattle.paper.specs.State.{State, state-bytes}
 use Rattle.paper.specs.Volume.{Further, decide, apply, View, in-diff, in-image}
-
--- w where `old` opens, and the rest of it as it was
-abbrev pub onto : List ℕ → List ℕ → List ℕ
-onto w old = w ++ drop (length w) old
 
 -- a check: kind, p, q and n of the head
 abbrev pub head-row : ℕ → ℕ → ℕ → ℕ → Said Head → ℕ × ℕ × ℕ × ℕ × ℕ
@@ -31,7 +26,7 @@ abbrev pub wrote-row : List ℕ → ℕ → Said (Wrote ℕ) → ℕ × List ℕ
 wrote-row old number (answer w) = (0, onto (w .bytes) old, w .value)
 wrote-row old number (refuse k) = (k, old, number)
 
--- deciding: the records of While and Done; "NoRoom where the lent bytes are too few, checked last"
+-- deciding: the records of While and Done; NoRoom, checked last, where too few bytes are lent for one of them
 unfoldable pub decide-records : List ℕ → List ℕ → List ℕ → ℕ → ℕ → Said Further
 decide-records d saved img room₀ room₁ = decide d saved img then λ f. guard (ltb room₀ state-size || ltb room₁ state-size) NoRoom (answer f)
 
@@ -39,7 +34,7 @@ abbrev pub further-row : List ℕ → List ℕ → Said Further → ℕ × List 
 further-row during done (answer f) = (0, onto (state-bytes (f .while)) during, onto (state-bytes (f .done)) done)
 further-row during done (refuse k) = (k, during, done)
 
--- an apply: the image, and the record of Done
+-- an apply: the image, and the record of Done; NoRoom, checked last, where too few bytes are lent for it
 unfoldable pub apply-record : List ℕ → List ℕ → List ℕ → ℕ → Said (Wrote State)
 apply-record d saved img room = apply d saved img then λ w. guard (ltb room state-size) NoRoom (answer w)
 

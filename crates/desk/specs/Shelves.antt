@@ -33,13 +33,13 @@ pub data Says (heads : List ℕ) (count : ℕ) (saved : List ℕ) (target : ℕ)
   planned : {on : Paper.Shelf} {said : Said (List ℕ)} → read-shelf heads count ≡ answer on → Plan-says on saved target said
       → Says heads count saved target said
 
--- "The answer has a length and a fixed number of places; those past the length hold 0." NoRoom, checked last, where fewer places are lent.
+-- "The answer has a length and a fixed number of places; those past the length hold 0."
 abbrev pub plan-row : List ℕ → ℕ → Said (List ℕ) → ℕ × List ℕ × ℕ
-plan-row old count (answer list) = (0, list ++ replicate (max-places - length list) 0 ++ drop max-places old, length list)
-plan-row old count (refuse k) = (k, old, count)
+plan-row old size (answer list) = (0, list ++ replicate (max-places - length list) 0 ++ drop max-places old, length list)
+plan-row old size (refuse k) = (k, old, size)
 
--- what `minnow_plan` promises: its answer r, and the places and the length that it leaves
-pub record Restores (heads : List ℕ) (count : ℕ) (saved : List ℕ) (target : ℕ) (old : List ℕ) (length₀ : ℕ) (r : ℕ) (new : List ℕ) (length₁ : ℕ) : Type 0 where
+-- what `minnow_plan` promises: its answer r, and the places and the list's length that it leaves; NoRoom, checked last, where fewer than 96 places are lent
+pub record Restores (heads : List ℕ) (count : ℕ) (saved : List ℕ) (target : ℕ) (old : List ℕ) (size₀ : ℕ) (r : ℕ) (new : List ℕ) (size₁ : ℕ) : Type 0 where
   pub said : Said (List ℕ)
   pub right : Says heads count saved target said
-  pub row : (r, new, length₁) ≡ plan-row old length₀ (said then λ list. guard (ltb (length old) max-places) NoRoom (answer list))
+  pub row : (r, new, size₁) ≡ plan-row old size₀ (said then λ list. guard (ltb (length old) max-places) NoRoom (answer list))

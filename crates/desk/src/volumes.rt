@@ -50,7 +50,7 @@ pub extern "C" fn minnow_apply(d: &[u8], saved: &[u8], img: &mut [u8], done: &mu
     ensures { λ r. ⌜ (r, now (img .exit), now (done .exit)) ≡ applied-row (now (img .entry)) (now (done .entry)) (apply-record (now (d .entry)) (now (saved .entry)) (now (img .entry)) (length (now (done .entry)))) ⌝ }
 {
     if done.len() < State::SIZE {
-        return no_room(d, saved, img);
+        return without_room(d, saved, img);
     }
     let said = doing::apply(d, saved, img);
     match said {
@@ -62,8 +62,8 @@ pub extern "C" fn minnow_apply(d: &[u8], saved: &[u8], img: &mut [u8], done: &mu
     }
 }
 
-// The answer of an apply that has no room for Done: "checked last".
-fn no_room(d: &[u8], saved: &[u8], img: &[u8]) -> u32
+// The answer of an apply where too few bytes are lent for Done: whatever else is wrong comes first.
+fn without_room(d: &[u8], saved: &[u8], img: &[u8]) -> u32
     ensures { λ r. ⌜ refuse r ≡ apply-record (now (d .entry)) (now (saved .entry)) (now (img .entry)) 0 ⌝ }
 {
     let said = decision::decide(d, saved, img);

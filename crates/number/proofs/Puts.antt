@@ -1,12 +1,12 @@
 -- Bytes stored one after another are bytes put at a place.
-use Prim.Native.Nat.{ℕ, suc, _+_, _/_, _%_, _≤_, _<_}
+use Prim.Native.Nat.{ℕ, suc, _+_, _-_, _/_, _%_, _≤_, _<_}
 use mathlib.Core.Path.{_≡_, refl, sym, ap, ap₂, _∙_}
 use mathlib.Core.List.{List, [], _∷_, _++_, append-assoc, append-nil}
 use native.Mathlib.Numerals.{add-one, towards-suc}
 use native.Mathlib.Nat.{add-zero}
 use native.Mathlib.Omega.{arith}
 use lib.ListN.{length, getD, take, drop, set, length-append, length-take, length-drop, take-append-drop}
-use lib.Seq.{drop-cons, take-suc, set-at, sets-eq, take-at, drop-at, drop-drop, length-take-le}
+use lib.Seq.{drop-cons, take-suc, set-at, sets-eq, take-at, drop-at, drop-drop, length-take-le, take-all}
 use Rattle.paper.specs.Number.{spelled}
 use Rattle.paper.proofs.Numbers.{spelled-length}
 use Rattle.number.specs.Put.{put}
@@ -59,3 +59,7 @@ put-8 s y z k x h e f =
     let m = spelled-length 4 (x / 4294967296) in
     let two = put-put k (spelled 4 (x % 4294967296)) (spelled 4 (x / 4294967296)) s (omega arith) in
     f ∙ rw e (rw n at two) ∙ ap (λ (b : List ℕ). put k b s) (spelled-8 x)
+
+-- a part that is all the rest
+pub part-all : (d : List ℕ) (at : ℕ) → take (length d - at) (drop at d) ≡ drop at d
+part-all d at = take-all (length d - at) (drop at d) (rw length-drop (omega arith))

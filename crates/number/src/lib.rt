@@ -84,14 +84,14 @@ pub fn copy_record(dst: &mut [u8], src: &[u8])
     copy(dst, src, 518)
 }
 
-// Whether two blocks, the first 512 bytes of a and of b, are the same. All bytes are looked at, so that many are compared at a time.
-pub fn same_block(a: &[u8], b: &[u8]) -> bool
-    requires { ⌜ (512 ≤ length (now a)) × (512 ≤ length (now b)) ⌝ }
-    ensures { λ r. ⌜ r ≡ same (take 512 (now (a .entry))) (take 512 (now (b .entry))) ⌝ }
+// Whether the first n bytes of a and of b are the same. All n are looked at, so that many are compared at a time.
+fn same_part(a: &[u8], b: &[u8], n: usize) -> bool
+    requires { ⌜ (n ≤ length (now a)) × (n ≤ length (now b)) ⌝ }
+    ensures { λ r. ⌜ r ≡ same (take n (now (a .entry))) (take n (now (b .entry))) ⌝ }
 {
     let mut differ = false;
     let mut i: usize = 0;
-    while i < 512 {
+    while i < n {
         if a[i] != b[i] {
             differ = true;
             i += 1;
@@ -100,4 +100,19 @@ pub fn same_block(a: &[u8], b: &[u8]) -> bool
         }
     }
     !differ
+}
+
+// Whether two blocks, the first 512 bytes of a and of b, are the same: in parts of 64 bytes, up to the first that differs.
+pub fn same_block(a: &[u8], b: &[u8]) -> bool
+    requires { ⌜ (512 ≤ length (now a)) × (512 ≤ length (now b)) ⌝ }
+    ensures { λ r. ⌜ r ≡ same (take 512 (now (a .entry))) (take 512 (now (b .entry))) ⌝ }
+{
+    let mut at: usize = 0;
+    while at < 512 {
+        if !same_part(&a[at..], &b[at..], 64) {
+            return false;
+        }
+        at += 64;
+    }
+    true
 }

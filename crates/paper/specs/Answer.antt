@@ -35,9 +35,13 @@ pub record Wrote (A : Type 0) : Type 0 where
 unfoldable pub comes-back : {A : Type 0} → Said (Wrote A) → Said A
 comes-back said = said then λ w. answer (w .value)
 
--- what the lent slice `old` holds afterwards: "output beyond the result stays", and a refusal "changes no lent byte"
+-- bytes where a lent slice opens: "output beyond the result stays"
+abbrev pub onto : List ℕ → List ℕ → List ℕ
+onto w old = w ++ drop (length w) old
+
+-- what the lent slice `old` holds afterwards; a refusal "changes no lent byte"
 unfoldable pub over : {A : Type 0} → List ℕ → Said (Wrote A) → List ℕ
-over old (answer w) = w .bytes ++ drop (length (w .bytes)) old
+over old (answer w) = onto (w .bytes) old
 over old (refuse k) = old
 
 -- The table of numbers.

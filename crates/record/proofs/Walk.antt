@@ -8,8 +8,7 @@ use native.Mathlib.Numerals.{add-one}
 use native.Mathlib.Nat.{sub-zero}
 use native.Mathlib.Omega.{arith}
 use lib.Dec.{leb}
-use lib.ListN.{length, take, drop, length-drop}
-use lib.Seq.{take-all}
+use lib.ListN.{length, take, drop}
 use borrow.Author.Tests.{eq-eqb, ne-eqb}
 use Rattle.paper.specs.Limits.{block-bytes}
 use Rattle.paper.specs.Answer.{answer, refuse}
@@ -17,16 +16,13 @@ use Rattle.paper.specs.Image.{block}
 use Rattle.paper.specs.Diff.{Head, rest, address-of, check-record, check-records, check, seek, names-outside}
 use Rattle.paper.proofs.Check.{record-sound, sound}
 use Rattle.paper.proofs.Names.{outside-empty, outside-by-last}
+use Rattle.number.proofs.Puts.{part-all}
 use Rattle.record.specs.declared.refusal.Refusal.{Refusal}
 use Rattle.record.specs.declared.block.Block.{Block}
 use Rattle.record.specs.declared.block.BlockSaid.{BlockSaid}
 use Rattle.record.specs.declared.block.BlockSaid.the-variants.{Sound, No}
 use Rattle.record.specs.Refusals.{number-of}
 use Rattle.record.specs.Blocks.{said-address}
-
--- the part of a slice from `at` on
-pub part-all : (d : List ℕ) (at : ℕ) → take (length d - at) (drop at d) ≡ drop at d
-part-all d at = take-all (length d - at) (drop at d) (rw length-drop (omega arith))
 
 -- the part from record i on
 pub part-rest : (d : List ℕ) (i at : ℕ) → at ≡ 24 + 518 * i → take (length d - at) (drop at d) ≡ rest d i

@@ -20,7 +20,7 @@ use Rattle.paper.proofs.Names.{named-by-none, named-by-here, named-by-later, co
 use Rattle.paper.proofs.Views.{content-place}
 use Rattle.number.specs.Put.{put}
 use Rattle.number.proofs.Puts.{put-length}
-use Rattle.record.proofs.Walk.{part-all}
+use Rattle.number.proofs.Puts.{part-all}
 use Rattle.record.proofs.Stores.{put-part}
 use Rattle.volume.specs.Writes.{Writable}
 

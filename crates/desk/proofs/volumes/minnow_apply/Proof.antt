@@ -3,8 +3,8 @@ use Rattle.desk.proofs.Deciding.{apply-short, apply-no, apply-yes}
 use Rattle.desk.proofs.volumes.minnow_apply.Statement.{statement}
 use Rattle.desk.proofs.volumes.minnow_apply.Tie as tie
 
-no-room-requires : tie.Need-no-room-requires
-no-room-requires c κs = search needs
+without-room-requires : tie.Need-without-room-requires
+without-room-requires c κs = search needs
 
 same-length : tie.Need-same-length
 same-length c = search needs
@@ -49,7 +49,7 @@ pub minnow-apply-spec : {M : Type 1} → statement M
 minnow-apply-spec =
     tie.close
     (tie.spec
-    no-room-requires
+    without-room-requires
     same-length
     returns
     apply-requires

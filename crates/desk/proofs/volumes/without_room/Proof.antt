@@ -1,7 +1,7 @@
 use borrow.Author.Needs.{needs}
 use Rattle.desk.proofs.Deciding.{none-no, none-yes}
-use Rattle.desk.proofs.volumes.no_room.Statement.{statement}
-use Rattle.desk.proofs.volumes.no_room.Tie as tie
+use Rattle.desk.proofs.volumes.without_room.Statement.{statement}
+use Rattle.desk.proofs.volumes.without_room.Tie as tie
 
 decide-requires : tie.Need-decide-requires
 decide-requires c κs = search needs
@@ -24,8 +24,8 @@ returns c = search none-no
 returns-2 : tie.Need-returns-2
 returns-2 c = search none-yes
 
-pub no-room-spec : {M : Type 1} → statement M
-no-room-spec =
+pub without-room-spec : {M : Type 1} → statement M
+without-room-spec =
     tie.close
     (tie.spec
     decide-requires
