@@ -47,19 +47,19 @@ enum Command {
 fn main() -> ExitCode {
     let words: Vec<String> = env::args().skip(1).collect();
     let words: Vec<&str> = words.iter().map(String::as_str).collect();
-    let Some(command) = parse(&words) else {
-        eprintln!("{USAGE}");
-        return ExitCode::from(2);
-    };
-    let agreed = match command {
-        Command::Share => share(),
-        Command::Seeds { from, count } => further(from, count),
-        Command::Bent(index) => one_bend(index),
-        Command::AllBends => all_bends(),
-        Command::Help => {
+    let agreed = match parse(&words) {
+        Some(Command::Share) => share(),
+        Some(Command::Seeds { from, count }) => further(from, count),
+        Some(Command::Bent(index)) => one_bend(index),
+        Some(Command::AllBends) => all_bends(),
+        Some(Command::Help) => {
             println!("{USAGE}\n\nBends:");
             ALL.iter().for_each(|(_, name, what)| println!("  {name:<22} {what}"));
             true
+        }
+        None => {
+            eprintln!("{USAGE}");
+            return ExitCode::from(2);
         }
     };
     ExitCode::from(u8::from(!agreed))

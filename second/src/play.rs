@@ -223,8 +223,9 @@ impl Round<'_> {
     /// A cut in the middle of an apply: each named block is any mix of its old and new bytes.
     fn cut(&mut self) -> Played {
         let diff = self.choose()?;
-        let Some(Decided { during, .. }) = self.decide(&diff)? else {
-            return Ok(());
+        let during = match self.decide(&diff)? {
+            Some(decided) => decided.during,
+            None => return Ok(()),
         };
         let new = self.history.image(diff.q).to_vec();
         for address in self.history.names(diff.kind, diff.p, diff.q) {
@@ -267,8 +268,9 @@ impl Round<'_> {
     /// An apply in runs that cover all records in random order, or a cut between two of them.
     fn in_runs(&mut self) -> Played {
         let diff = self.choose()?;
-        let Some(Decided { during, done }) = self.decide(&diff)? else {
-            return Ok(());
+        let Decided { during, done } = match self.decide(&diff)? {
+            Some(decided) => decided,
+            None => return Ok(()),
         };
         let before = self.image.clone();
         let names = self.history.names(diff.kind, diff.p, diff.q);

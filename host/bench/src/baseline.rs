@@ -52,12 +52,12 @@ pub fn apply(diff: &[u8], state: &[u8], image: &mut [u8]) -> Result<StateRecord,
     // Addresses rise: the last one decides.
     if named
         .last()
-        .is_some_and(|last| address(last) as usize >= blocks)
+        .map_or(false, |last| address(last) as usize >= blocks)
     {
         return Err(Refusal::Outside);
     }
     let done = after(&head, &state)?;
-    let (blocks, _) = image.as_chunks_mut::<BLOCK>();
+    let blocks = records::chunks_mut::<BLOCK>(image);
     for record in named {
         blocks[address(record) as usize].copy_from_slice(records::content(record));
     }
@@ -74,14 +74,20 @@ impl<'a> Iterator for Union<'a> {
     type Item = &'a Record;
 
     fn next(&mut self) -> Option<&'a Record> {
-        let Some((a, first)) = self.first.split_first() else {
-            let (b, second) = self.second.split_first()?;
-            self.second = second;
-            return Some(b);
+        let (a, first) = match self.first.split_first() {
+            Some(split) => split,
+            None => {
+                let (b, second) = self.second.split_first()?;
+                self.second = second;
+                return Some(b);
+            }
         };
-        let Some((b, second)) = self.second.split_first() else {
-            self.first = first;
-            return Some(a);
+        let (b, second) = match self.second.split_first() {
+            Some(split) => split,
+            None => {
+                self.first = first;
+                return Some(a);
+            }
         };
         if address(a) < address(b) {
             self.first = first;
@@ -116,7 +122,7 @@ pub fn merge(first: &[u8], second: &[u8], out: &mut [u8]) -> Result<usize, Refus
         ..head
     };
     records::write_head(&merged, result);
-    let (places, _) = result[HEAD..].as_chunks_mut();
+    let places = records::chunks_mut(&mut result[HEAD..]);
     for (place, record) in places.iter_mut().zip(union()) {
         *place = *record;
     }
@@ -130,7 +136,7 @@ pub fn compare(old: &[u8], new: &[u8], p: u64, q: u64, out: &mut [u8]) -> Result
         return Err(Refusal::BadImage);
     }
     records::check_gids(p, q)?;
-    let (old, new) = (old.as_chunks::<BLOCK>().0, new.as_chunks::<BLOCK>().0);
+    let (old, new) = (records::chunks::<BLOCK>(old), records::chunks::<BLOCK>(new));
     let differing: Vec<u32> = (0..)
         .zip(old.iter().zip(new))
         .filter(|(_, (before, now))| before != now)
@@ -145,7 +151,7 @@ pub fn compare(old: &[u8], new: &[u8], p: u64, q: u64, out: &mut [u8]) -> Result
         n: differing.len() as u32,
     };
     records::write_head(&head, result);
-    let (places, _) = result[HEAD..].as_chunks_mut();
+    let places = records::chunks_mut(&mut result[HEAD..]);
     for (place, &a) in places.iter_mut().zip(&differing) {
         records::write_record(place, a, &new[a as usize]);
     }

@@ -2,10 +2,9 @@
 
 use crate::baseline;
 use crate::made;
-use crate::timing::{alternate, Effort, Measured};
+use crate::timing::{alternate, black_box, Effort, Measured};
 use minnow::{Refusal, MAX_BLOCKS, PLACES};
 use std::fmt::Debug;
-use std::hint::black_box;
 
 /// Above the plain Rust's time by at most this factor: what is aimed at.
 const CHECK_AIM: f64 = 1.2;

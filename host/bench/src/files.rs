@@ -40,7 +40,13 @@ fn as_rbd(diff: &[u8], gids: (u64, u64), joins: fn(u32, u32) -> bool) -> Vec<u8>
     bytes.push(b's');
     bytes.extend(((BLOCK * MAX_BLOCKS) as u64).to_le_bytes());
     let blocks: Vec<(u32, &[u8])> = diff[HEAD..].chunks_exact(RECORD).map(block).collect();
-    for run in blocks.chunk_by(|a, b| joins(a.0, b.0)) {
+    let mut rest = blocks.as_slice();
+    while !rest.is_empty() {
+        let joined = rest
+            .windows(2)
+            .take_while(|pair| joins(pair[0].0, pair[1].0));
+        let (run, further) = rest.split_at(1 + joined.count());
+        rest = further;
         bytes.push(b'w');
         bytes.extend((BLOCK as u64 * u64::from(run[0].0)).to_le_bytes());
         bytes.extend(((BLOCK * run.len()) as u64).to_le_bytes());

@@ -122,7 +122,7 @@ mod tests {
         for (n, of) in [(1_000, 2_000), (60_000, MAX_BLOCKS)] {
             let addresses = spread(n, of, 0);
             assert_eq!(addresses.len(), n);
-            assert!(addresses.is_sorted_by(|a, b| a < b));
+            assert!(addresses.windows(2).all(|pair| pair[0] < pair[1]));
             assert!(addresses.iter().all(|&a| (a as usize) < of));
         }
     }

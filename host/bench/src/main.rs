@@ -109,7 +109,7 @@ fn blocks(effort: Effort) -> Result<(), String> {
         print_row(cases::merge(size, "nearly all common", nearly, effort)?);
     }
     for size in [1_000, 60_000] {
-        let one = |a: usize| a.is_multiple_of(100);
+        let one = |a: usize| a % 100 == 0;
         print_row(cases::compare(size, "1 block in 100 differs", one, effort)?);
         print_row(cases::compare(size, "all differ", |_| true, effort)?);
     }

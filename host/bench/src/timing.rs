@@ -1,5 +1,6 @@
 //! Two calls measured in turn on the same buffers, so that whatever else the machine does hits both.
 
+use std::arch::asm;
 use std::time::{Duration, Instant};
 
 /// How long to measure.
@@ -24,6 +25,13 @@ pub struct Measured {
 
 /// A sample repeats its call until about this long has passed: the clock costs some 30 ns.
 const SAMPLE: Duration = Duration::from_micros(50);
+
+/// Hides a value from the optimiser, so that what makes it and what it is for are not left out.
+pub fn black_box<T>(mut value: T) -> T {
+    // SAFETY: the assembly is empty; the compiler must assume that it reads and changes the value.
+    unsafe { asm!("/* {0} */", in(reg) &mut value as *mut T, options(nostack, preserves_flags)) };
+    value
+}
 
 pub fn alternate<L>(
     lent: &mut L,

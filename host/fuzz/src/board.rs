@@ -1,6 +1,7 @@
 //! What the playing child tells its parent, in memory that both share: where it is, and the counts so far. It outlives a fault.
 
 use std::io;
+use std::mem::size_of;
 use std::sync::atomic::{AtomicU64, AtomicUsize, Ordering};
 
 use minnow::Refusal;

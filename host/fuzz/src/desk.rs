@@ -1,6 +1,8 @@
 //! The eleven calls of the C interface: their names, the answers that `include/minnow.h` lists for each, and the call itself
 //! on lent memory.
 
+use std::mem::{align_of, size_of};
+
 use minnow::face;
 
 use crate::guarded::Lent;
@@ -94,7 +96,7 @@ impl Lending {
         let lent = &self.written[place];
         assert_eq!(lent.len(), size_of::<T>());
         let pointer: *mut T = lent.pointer().cast();
-        assert!(pointer.is_aligned());
+        assert!(aligned(pointer));
         pointer
     }
 
@@ -199,10 +201,14 @@ unsafe fn making(call: Call, lent: &Lending) -> u32 {
     }
 }
 
+fn aligned<T>(pointer: *mut T) -> bool {
+    pointer as usize % align_of::<T>() == 0
+}
+
 unsafe fn planning(lent: &Lending) -> u32 {
     let ((heads, heads_len), (state, state_len)) = (lent.read(0), lent.read(1));
     let (places, places_len) = lent.written(0);
-    assert!(places.cast::<usize>().is_aligned());
+    assert!(aligned(places.cast::<usize>()));
     // SAFETY: as for `enter`; the length in places is that of the whole numbers in the memory.
     unsafe {
         face::minnow_plan(

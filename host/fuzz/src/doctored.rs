@@ -72,7 +72,7 @@ fn call_it_bad(case: &Case, outcome: &mut Outcome) {
 const REFUSED: bool = false;
 const ACCEPTED: bool = true;
 
-const fn change(
+fn change(
     name: &'static str,
     call: Call,
     accepted: bool,
@@ -89,30 +89,32 @@ const fn change(
 }
 
 #[rustfmt::skip]
-const CHANGES: [Change; 18] = [
-    change("an answer above 20", Call::Check, REFUSED, always, |_, o| o.answer = 21),
-    change("the refusal of another call", Call::Check, REFUSED, always, |_, o| o.answer = 10),
-    change("a refusal that changed its output", Call::Merge, REFUSED, first_not_empty, flip_first),
-    change("a refusal that changed a number", Call::Merge, REFUSED, always, flip_number),
-    change("a refusal that changed the image", Call::Apply, REFUSED, first_not_empty, flip_last),
-    change("a byte beyond a merge", Call::Merge, ACCEPTED, longer_than_result, flip_last),
-    change("a byte beyond a comparison", Call::Compare, ACCEPTED, longer_than_result, flip_last),
-    change("a byte beyond a state record", Call::WriteState, ACCEPTED, longer_than_result, flip_last),
-    change("a length beyond the output", Call::Merge, ACCEPTED, always, lengthen),
-    change("an apply that leaves another image", Call::Apply, ACCEPTED, always, flip_first),
-    change("a run that leaves another image", Call::Run, ACCEPTED, always, flip_last),
-    change("a run that says another record", Call::Run, ACCEPTED, always, flip_number),
-    change("a head that breaks the rules", Call::Check, ACCEPTED, always, |_, o| o.written[0][0] = 2),
-    change("a view outside", Call::ReadThrough, ACCEPTED, always, |_, o| o.written[1][6] = 1),
-    change("a view of another block", Call::ReadThrough, ACCEPTED, in_image, |_, o| o.written[1][1] ^= 2),
-    change("a start called bad", Call::Run, ACCEPTED, always, call_it_bad),
-    change("a place past the count", Call::Plan, ACCEPTED, list_not_empty, |_, o| o.written[0][0] = 97),
-    change("another lag", Call::Lag, ACCEPTED, always, flip_first),
-];
+fn changes() -> [Change; 18] {
+    [
+        change("an answer above 20", Call::Check, REFUSED, always, |_, o| o.answer = 21),
+        change("the refusal of another call", Call::Check, REFUSED, always, |_, o| o.answer = 10),
+        change("a refusal that changed its output", Call::Merge, REFUSED, first_not_empty, flip_first),
+        change("a refusal that changed a number", Call::Merge, REFUSED, always, flip_number),
+        change("a refusal that changed the image", Call::Apply, REFUSED, first_not_empty, flip_last),
+        change("a byte beyond a merge", Call::Merge, ACCEPTED, longer_than_result, flip_last),
+        change("a byte beyond a comparison", Call::Compare, ACCEPTED, longer_than_result, flip_last),
+        change("a byte beyond a state record", Call::WriteState, ACCEPTED, longer_than_result, flip_last),
+        change("a length beyond the output", Call::Merge, ACCEPTED, always, lengthen),
+        change("an apply that leaves another image", Call::Apply, ACCEPTED, always, flip_first),
+        change("a run that leaves another image", Call::Run, ACCEPTED, always, flip_last),
+        change("a run that says another record", Call::Run, ACCEPTED, always, flip_number),
+        change("a head that breaks the rules", Call::Check, ACCEPTED, always, |_, o| o.written[0][0] = 2),
+        change("a view outside", Call::ReadThrough, ACCEPTED, always, |_, o| o.written[1][6] = 1),
+        change("a view of another block", Call::ReadThrough, ACCEPTED, in_image, |_, o| o.written[1][1] ^= 2),
+        change("a start called bad", Call::Run, ACCEPTED, always, call_it_bad),
+        change("a place past the count", Call::Plan, ACCEPTED, list_not_empty, |_, o| o.written[0][0] = 97),
+        change("another lag", Call::Lag, ACCEPTED, always, flip_first),
+    ]
+}
 
 /// For each change its name, whether the judge passed the outcome before and objected after, and what it said.
 pub fn judged() -> Result<Vec<(&'static str, bool, String)>, String> {
-    CHANGES.iter().map(judge_change).collect()
+    changes().iter().map(judge_change).collect()
 }
 
 fn judge_change(change: &Change) -> Result<(&'static str, bool, String), String> {

@@ -34,7 +34,7 @@ struct Region {
 impl Region {
     fn map(class: usize) -> io::Result<Region> {
         let page = system::page_size();
-        let size = SIZES[class].div_ceil(page) * page;
+        let size = (SIZES[class] + page - 1) / page * page;
         let whole = system::map_private(size + 2 * GUARD, Rights::None)?;
         // SAFETY: the mapping is two guards longer than `size`; a guard is whole pages.
         let start = unsafe { whole.add(GUARD) };
@@ -127,7 +127,9 @@ impl Yard {
     /// A buffer that holds these bytes, writable until it is locked.
     pub fn lend(&mut self, bytes: &[u8], side: Side) -> io::Result<Lent> {
         let class = SIZES.iter().position(|&size| bytes.len() <= size);
-        let class = class.ok_or_else(|| io::Error::other("a buffer larger than any region"))?;
+        let class = class.ok_or_else(|| {
+            io::Error::new(io::ErrorKind::Other, "a buffer larger than any region")
+        })?;
         let region = match self.free[class].pop() {
             Some(region) => region,
             None => Region::map(class)?,

@@ -78,7 +78,7 @@ fn accepted(case: &Case, after: &[Vec<u8>]) -> Result<(), String> {
         Call::Run => ran(case, after),
         Call::Merge | Call::Compare => {
             let length = number(&after[1]) as usize;
-            let whole = length >= HEAD && (length - HEAD).is_multiple_of(RECORD);
+            let whole = length >= HEAD && (length - HEAD) % RECORD == 0;
             holds(whole, "the length is not that of a diff")?;
             stays(&before[0], &after[0], length)
         }
@@ -180,7 +180,10 @@ fn view_given(case: &Case, after: &[Vec<u8>]) -> Result<(), String> {
     holds(slice <= 1, "the slice is neither the diff nor the image")?;
     let len = case.read[slice as usize].len() as u64;
     let end = at.checked_add(BLOCK as u64);
-    holds(end.is_some_and(|end| end <= len), "the view is not inside")?;
+    holds(
+        end.map_or(false, |end| end <= len),
+        "the view is not inside",
+    )?;
     let shown = match slice {
         0 => field(&case.read[0], (at as usize).saturating_sub(4), 4),
         _ => at / BLOCK as u64,

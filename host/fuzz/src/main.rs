@@ -1,6 +1,8 @@
 //! Hostile input at the door: plays random, spoiled and sound inputs through the C interface of the proved library, with
 //! every lent buffer between pages that fault.
 
+#![warn(unsafe_op_in_unsafe_fn)]
+
 mod board;
 mod cases;
 mod desk;

@@ -67,7 +67,9 @@ pub fn run() -> io::Result<bool> {
         let came = came_to(ended);
         well &= tell(name, came == Some(must), &format!("{ended:?}"));
     }
-    for (name, right, said) in doctored::judged().map_err(io::Error::other)? {
+    for (name, right, said) in
+        doctored::judged().map_err(|said| io::Error::new(io::ErrorKind::Other, said))?
+    {
         well &= tell(name, right, &said);
     }
     let verdict = if well { "passed" } else { "FAILED" };

@@ -112,8 +112,9 @@ fn set_field(random: &mut Random, bytes: &mut Vec<u8>, meant: Meant) {
         }
         Meant::Diff => diff_field(random, bytes.len()),
     };
-    let Some(field) = bytes.get_mut(at..at + width) else {
-        return;
+    let field = match bytes.get_mut(at..at + width) {
+        Some(field) => field,
+        None => return,
     };
     let mut value = [0; 8];
     value[..width].copy_from_slice(field);

@@ -1,8 +1,8 @@
 //! What the driver needs of the C library, declared by hand: memory with rights, children, and a limit of time.
 //! For Linux on x86-64 and Arm, where the numbers below are the same.
 
-use std::ffi::{c_int, c_long, c_uint, c_void};
 use std::io;
+use std::os::raw::{c_int, c_long, c_uint, c_void};
 use std::process;
 use std::ptr;
 
@@ -20,7 +20,7 @@ struct Limit {
     most: u64,
 }
 
-unsafe extern "C" {
+extern "C" {
     fn mmap(
         at: *mut c_void,
         size: usize,

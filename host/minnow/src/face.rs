@@ -5,7 +5,7 @@
 //! overlaps any other memory handed over. Any bytes may stand in it. Whoever does not need the raw calls has the safe ones
 //! of the crate, with the same names.
 
-unsafe extern "C" {
+extern "C" {
     /// Checks a diff; refusals 1 to 6.
     pub fn minnow_check(
         diff: *const u8,

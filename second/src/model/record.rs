@@ -257,7 +257,7 @@ pub fn write_state(state: &State) -> Vec<u8> {
 pub fn image_blocks(length: usize) -> Result<u64, Refusal> {
     let blocks = (length / BLOCK) as u64;
     let limit = if bent(Bend::ImageLimit) { BLOCKS + 1 } else { BLOCKS };
-    let whole = length.is_multiple_of(BLOCK);
+    let whole = length % BLOCK == 0;
     refuse(Refusal::BadImage, length == 0 || !whole || blocks > limit)?;
     Ok(blocks)
 }

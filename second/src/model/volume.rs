@@ -116,7 +116,7 @@ pub fn run(diff: &[u8], image: &mut [u8], i: u64, k: u64) -> Result<u64, Refusal
         inside(&diff, blocks)?;
     } else if let Some(last) = next.checked_sub(1).filter(|last| i <= *last) {
         let address = diff.blocks.keys().nth(last as usize);
-        refuse(Refusal::Outside, address.is_some_and(|a| u64::from(*a) >= blocks))?;
+        refuse(Refusal::Outside, address.map_or(false, |a| u64::from(*a) >= blocks))?;
     }
     start(i, n)?;
     for (address, content) in records(&diff, i, next) {
@@ -161,7 +161,7 @@ pub fn read_through(diff: &[u8], image_length: usize, a: u64) -> Result<Found, R
     let asked_outside = if bent(Bend::ThroughEnd) { a > blocks } else { a >= blocks };
     refuse(Refusal::Outside, asked_outside)?;
     let earlier = diff.blocks.keys().filter(|address| u64::from(**address) < a).count();
-    let named = u32::try_from(a).is_ok_and(|a| diff.blocks.contains_key(&a));
+    let named = u32::try_from(a).map_or(false, |a| diff.blocks.contains_key(&a));
     if named {
         return Ok(Found::InDiff((HEAD + RECORD * earlier + RECORD - BLOCK) as u64));
     }

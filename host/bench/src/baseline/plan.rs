@@ -46,8 +46,9 @@ impl Search<'_> {
             if self.dead[place] {
                 continue;
             }
-            let Ok(done) = after(&self.shelf[place], state) else {
-                continue;
+            let done = match after(&self.shelf[place], state) {
+                Ok(done) => done,
+                Err(_) => continue,
             };
             self.list.push(place);
             if self.reaches(&done) {

@@ -4,6 +4,7 @@ use minnow::{
     DiffKind, Head, Refusal, State, StateKind, StateRecord, BLOCK, HEAD, MAX_BLOCKS, MAX_GID,
     RECORD, STATE,
 };
+use std::slice::{from_raw_parts, from_raw_parts_mut};
 
 const DIFF_MARK: [u8; 2] = [0x57, 0x44];
 const BLOCK_MARK: [u8; 2] = [0x57, 0x42];
@@ -21,7 +22,7 @@ fn u64_at(record: &[u8], at: usize) -> u64 {
 
 /// Reads a head by the head rules; what follows it is not looked at.
 pub fn read_head(bytes: &[u8]) -> Result<Head, Refusal> {
-    let head: &[u8; HEAD] = bytes.first_chunk().ok_or(Refusal::CutOff)?;
+    let head = bytes.get(..HEAD).ok_or(Refusal::CutOff)?;
     if head[..2] != DIFF_MARK {
         return Err(Refusal::BadMark);
     }
@@ -66,9 +67,20 @@ pub fn diff_size(n: usize) -> usize {
     HEAD + RECORD * n
 }
 
+/// Bytes as arrays of N; a rest that fills none is left out.
+pub fn chunks<const N: usize>(bytes: &[u8]) -> &[[u8; N]] {
+    // SAFETY: arrays of bytes may stand anywhere, and as many are taken as fit.
+    unsafe { from_raw_parts(bytes.as_ptr().cast(), bytes.len() / N) }
+}
+
+pub fn chunks_mut<const N: usize>(bytes: &mut [u8]) -> &mut [[u8; N]] {
+    // SAFETY: as for `chunks`; the bytes are lent to nobody else.
+    unsafe { from_raw_parts_mut(bytes.as_mut_ptr().cast(), bytes.len() / N) }
+}
+
 /// The records of a diff that has passed.
 pub fn records(diff: &[u8]) -> &[Record] {
-    diff[HEAD..].as_chunks().0
+    chunks(&diff[HEAD..])
 }
 
 pub fn address(record: &Record) -> u32 {
@@ -136,7 +148,7 @@ pub fn write_state(state: &State) -> StateRecord {
 /// The number of blocks of an image.
 pub fn check_image(image: &[u8]) -> Result<usize, Refusal> {
     let blocks = image.len() / BLOCK;
-    if blocks == 0 || !image.len().is_multiple_of(BLOCK) || blocks > MAX_BLOCKS {
+    if blocks == 0 || image.len() % BLOCK != 0 || blocks > MAX_BLOCKS {
         return Err(Refusal::BadImage);
     }
     Ok(blocks)

@@ -1,0 +1,292 @@
+//! What happens around a write: locks, files left by killed runs, full disks, and the size of things.
+
+mod common;
+use common::*;
+use std::fs::{self, File};
+use std::os::unix::io::AsRawFd;
+use std::path::{Path, PathBuf};
+use std::process::{Command, Stdio};
+
+extern "C" {
+    fn flock(fd: i32, operation: i32) -> i32;
+}
+
+const SHARED: i32 = 1;
+const EXCLUSIVE: i32 = 2;
+
+/// Locks a file until it is dropped.
+fn locked(path: &Path, operation: i32) -> File {
+    let file = File::options()
+        .read(true)
+        .write(true)
+        .open(path)
+        .expect("a file to lock");
+    // SAFETY: two numbers are passed, the first an open descriptor.
+    assert_eq!(unsafe { flock(file.as_raw_fd(), operation) }, 0);
+    file
+}
+
+fn ready() -> Folder {
+    let folder = Folder::new();
+    folder
+        .volume(4, 0, &clean(7))
+        .write("d", &diff(LOG, 5, 9, &[(1, 1)]));
+    folder.write("e", &diff(LOG, 9, 10, &[]));
+    folder
+}
+
+#[test]
+fn a_volume_under_an_apply_is_left_alone() {
+    let folder = ready();
+    let lock = locked(&folder.path("vol"), EXCLUSIVE);
+    let said = "vol: locked: another minnow is at work on this volume";
+    for line in [
+        "apply vol d",
+        "restore vol 9 d",
+        "show vol d 0",
+        "compare vol vol --from 1 --to 2 -o out",
+        "state new vol.state --clean 1 --force",
+    ] {
+        folder.line(line).fails(75, said);
+    }
+    folder
+        .line("decide vol d")
+        .says("d: accepted: while pair 7,9,9; done clean 9");
+    folder
+        .line("plan vol 9 d")
+        .says("0: d: log 5 to 9, 1 block");
+    folder
+        .line("lag vol 9")
+        .says("-2: the volume is clean 7, 2 behind gid 9");
+    assert_eq!(folder.read("vol.state"), clean(7));
+    assert_eq!(folder.names(), ["d", "e", "vol", "vol.state"]);
+    drop(lock);
+    folder
+        .line("apply vol d")
+        .says("vol: clean 9, 1 block written");
+}
+
+#[test]
+fn readers_do_not_keep_each_other_off_but_an_apply() {
+    let folder = ready();
+    fs::hard_link(folder.path("vol"), folder.path("same")).expect("a link");
+    let _lock = locked(&folder.path("same"), SHARED);
+    assert_eq!(folder.line("show vol d 0 --raw").raw, [0; 512]);
+    let said = "vol: locked: another minnow is at work on this volume";
+    folder.line("apply vol d").fails(75, said);
+}
+
+/// What a killed run left is removed, and never written into: here it is a second name of a file that matters.
+#[test]
+fn stale_temporary_files_do_not_disturb() {
+    let folder = ready();
+    folder.write("precious", b"precious");
+    for name in ["vol.state.minnow-new", "out.minnow-new"] {
+        fs::hard_link(folder.path("precious"), folder.path(name)).expect("a link");
+    }
+    folder
+        .line("apply vol d")
+        .says("vol: clean 9, 1 block written");
+    folder
+        .line("merge d e -o out")
+        .says("out: log 5 to 10, 1 block, 542 bytes");
+    assert_eq!(folder.read("precious"), b"precious");
+    assert_eq!(
+        folder.names(),
+        ["d", "e", "out", "precious", "vol", "vol.state"]
+    );
+}
+
+#[test]
+fn a_temporary_file_in_use_is_left_alone() {
+    let folder = ready();
+    folder.write("out.minnow-new", b"half");
+    let lock = locked(&folder.path("out.minnow-new"), EXCLUSIVE);
+    folder
+        .line("merge d e -o out")
+        .fails(75, "out.minnow-new: another minnow is writing this file");
+    assert_eq!(folder.read("out.minnow-new"), b"half");
+    drop(lock);
+    folder
+        .line("merge d e -o out")
+        .says("out: log 5 to 10, 1 block, 542 bytes");
+}
+
+#[test]
+fn a_temporary_name_that_is_no_file() {
+    let folder = ready();
+    fs::create_dir(folder.path("out.minnow-new")).expect("a folder");
+    folder
+        .line("merge d e -o out")
+        .fails_with(73, "out.minnow-new: cannot take over");
+    fs::create_dir(folder.path("vol.state.minnow-new")).expect("a folder");
+    folder
+        .line("apply vol d")
+        .fails_with(73, "vol.state.minnow-new: cannot take over");
+    assert_eq!(folder.read("vol"), [0; 2048]);
+    assert_eq!(folder.read("vol.state"), clean(7));
+}
+
+/// Two merges into one file at once: one of them makes it, whole.
+#[test]
+fn two_at_once_make_one_output() {
+    let folder = ready();
+    for _ in 0..20 {
+        let spawn = || {
+            folder
+                .command()
+                .args(["merge", "d", "e", "-o", "out", "--quiet"])
+                .stderr(Stdio::null())
+                .spawn()
+        };
+        let mut runs = [spawn().expect("a run"), spawn().expect("a run")];
+        let mut statuses: Vec<Option<i32>> = runs
+            .iter_mut()
+            .map(|run| run.wait().expect("a run").code())
+            .collect();
+        statuses.sort();
+        assert_eq!(statuses[0], Some(0));
+        assert!(matches!(statuses[1], Some(73 | 75)), "{statuses:?}");
+        assert_eq!(folder.read("out"), diff(LOG, 5, 10, &[(1, 1)]));
+        assert_eq!(folder.names(), ["d", "e", "out", "vol", "vol.state"]);
+        fs::remove_file(folder.path("out")).expect("the output");
+    }
+}
+
+/// A limit on file sizes stands for a disk that fills up while a result is written.
+#[test]
+fn an_output_that_does_not_fit_leaves_nothing() {
+    let folder = Folder::new();
+    let blocks: Vec<(u32, u8)> = (0..100).map(|address| (address, 1)).collect();
+    folder
+        .write("d", &diff(LOG, 5, 9, &blocks))
+        .write("e", &diff(LOG, 9, 10, &[]));
+    let answer = folder.shell("ulimit -f 8; minnow merge d e -o out");
+    answer.fails_with(74, "out: cannot write: File too large");
+    assert_eq!(folder.names(), ["d", "e"]);
+}
+
+/// A small file system in memory, if we may mount one.
+struct Disk(PathBuf);
+
+impl Disk {
+    fn new(folder: &Folder, test: &str) -> Option<Disk> {
+        let path = folder.path("disk");
+        fs::create_dir(&path).expect("a folder");
+        let mounted = Command::new("mount")
+            .args(["-t", "tmpfs", "-o", "size=64k", "tmpfs"])
+            .arg(&path)
+            .output();
+        match mounted {
+            Ok(output) if output.status.success() => Some(Disk(path)),
+            _ => {
+                skipped(test, "a file system cannot be mounted here");
+                None
+            }
+        }
+    }
+
+    /// Writes until nothing more fits.
+    fn fill(&self) {
+        let mut size = 65_536;
+        while size >= 512 {
+            let name = self.0.join(format!("filler-{size}"));
+            if fs::write(&name, vec![1; size]).is_err() {
+                let _ = fs::remove_file(&name);
+            }
+            size /= 2;
+        }
+    }
+}
+
+impl Drop for Disk {
+    fn drop(&mut self) {
+        let _ = Command::new("umount").arg(&self.0).status();
+    }
+}
+
+#[test]
+fn a_full_disk_is_noticed_before_the_first_byte_moves() {
+    let folder = Folder::new();
+    let disk = match Disk::new(
+        &folder,
+        "a_full_disk_is_noticed_before_the_first_byte_moves",
+    ) {
+        Some(disk) => disk,
+        None => return,
+    };
+    folder.write("d", &diff(LOG, 5, 9, &[(1, 1), (200, 2)]));
+    folder
+        .sparse("disk/vol", b"", 512 * 256)
+        .write("disk/vol.state", &clean(7));
+    let said = "disk/vol: no room set aside: No space left on device (os error 28)";
+    folder.line("apply disk/vol d").fails(74, said);
+    assert_eq!(folder.read("disk/vol"), vec![0; 512 * 256]);
+    assert_eq!(folder.read("disk/vol.state"), clean(7));
+    drop(disk);
+}
+
+#[test]
+fn a_disk_too_full_for_the_state_moves_no_byte() {
+    let folder = Folder::new();
+    let disk = match Disk::new(&folder, "a_disk_too_full_for_the_state_moves_no_byte") {
+        Some(disk) => disk,
+        None => return,
+    };
+    folder
+        .write("d", &diff(LOG, 5, 9, &[(1, 1)]))
+        .write("e", &diff(LOG, 9, 10, &[]));
+    folder
+        .write("disk/vol", &[0; 2048])
+        .write("disk/vol.state", &clean(7));
+    disk.fill();
+    let names = fs::read_dir(&disk.0).expect("the disk").count();
+    folder
+        .line("apply disk/vol d")
+        .fails_with(74, "No space left on device");
+    folder
+        .line("merge d e -o disk/out")
+        .fails_with(74, "disk/out: cannot write: No space left on device");
+    folder
+        .line("state new disk/s --clean 1")
+        .fails_with(74, "No space left on device");
+    assert_eq!(folder.read("disk/vol"), [0; 2048]);
+    assert_eq!(folder.read("disk/vol.state"), clean(7));
+    assert_eq!(fs::read_dir(&disk.0).expect("the disk").count(), names);
+}
+
+/// Full size: 32 MiB of volume, diffs of 34 MB, in no more memory than the files and 12 MiB for everything else.
+#[test]
+fn full_size_in_no_more_memory_than_the_files() {
+    let folder = Folder::new();
+    let (image, full) = (33_554_432, 33_947_672);
+    folder
+        .write("vol", &vec![0; image])
+        .write("vol.state", &clean(0));
+    folder
+        .write("d", &full_diff(0, 1, 1))
+        .write("e", &full_diff(1, 2, 2));
+    let within = |files: usize, line: &str| {
+        let kib = files / 1024 + 12 * 1024;
+        folder.shell(&format!("ulimit -v {kib}; minnow {line}"))
+    };
+    within(full, "check d").says("d: log 0 to 1, 65536 blocks");
+    let answer = within(3 * full, "merge d e -o out");
+    answer.says(&format!("out: log 0 to 2, 65536 blocks, {full} bytes"));
+    assert!(
+        folder.read("out") == full_diff(0, 2, 2),
+        "the merge is wrong"
+    );
+    within(image + full, "apply vol d").says("vol: clean 1, 65536 blocks written");
+    assert!(folder.read("vol") == vec![1; image], "the image is wrong");
+    folder.write("old", &vec![0; image]);
+    let answer = within(
+        2 * image + full,
+        "compare old vol --from 0 --to 1 -o compared",
+    );
+    answer.says(&format!(
+        "compared: compared 0 to 1, 65536 blocks, {full} bytes"
+    ));
+    let answer = within(image + full, "restore vol 2 d e");
+    answer.says("1: e: log 1 to 2, 65536 blocks: clean 2\nvol: clean 2, 1 diff applied");
+}
