@@ -2,7 +2,7 @@
 //! than one byte past what could be sound: the answer is then the one for the whole file.
 
 use crate::failure::{shown, Failure, NO_INPUT, USAGE};
-use crate::sys::O_NONBLOCK;
+use crate::sys::{self, O_NONBLOCK};
 use minnow::{BLOCK, HEAD, MAX_BLOCKS, RECORD, STATE};
 use std::fs::{self, File, Metadata, OpenOptions};
 use std::io::Read;
@@ -118,6 +118,7 @@ fn content(opened: Opened, what: &'static str, limit: usize) -> Result<Content, 
     let mut bytes = Vec::new();
     let room = bytes.try_reserve_exact(expected + 1);
     room.map_err(|_| Failure::internal(format!("no memory for the {expected} bytes of a file")))?;
+    let mut bytes = sys::in_large_pages(bytes);
     (&opened.file)
         .take(most)
         .read_to_end(&mut bytes)

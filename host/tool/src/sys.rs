@@ -1,4 +1,4 @@
-//! The few functions of libc that std lacks: mapped files, locks, the allocation of a file's blocks, owners, terminals, a rename that never
+//! The few functions of libc that std lacks: mapped files, large pages, locks, the allocation of a file's blocks, owners, terminals, a rename that never
 //! overwrites, and two signals. Linux on x86-64 and aarch64, where `off_t` has 64 bits and these numbers are the same.
 
 use std::ffi::CString;
@@ -31,6 +31,9 @@ const MS_SYNC: c_int = 4;
 const LOCK_SH: c_int = 1;
 const LOCK_EX: c_int = 2;
 const LOCK_NB: c_int = 4;
+const MADV_HUGEPAGE: c_int = 14;
+/// The largest page that a machine of these has as its smallest.
+const PAGE: usize = 64 * 1024;
 const AT_FDCWD: c_int = -100;
 const RENAME_NOREPLACE: c_uint = 1;
 const SIGBUS: c_int = 7;
@@ -48,6 +51,7 @@ extern "C" {
     ) -> *mut c_void;
     fn munmap(at: *mut c_void, len: usize) -> c_int;
     fn msync(at: *mut c_void, len: usize, flags: c_int) -> c_int;
+    fn madvise(at: *mut c_void, len: usize, advice: c_int) -> c_int;
     fn flock(fd: c_int, operation: c_int) -> c_int;
     fn fchown(fd: c_int, owner: c_uint, group: c_uint) -> c_int;
     fn isatty(fd: c_int) -> c_int;
@@ -153,6 +157,19 @@ pub fn lock(file: &File, lock: Lock) -> io::Result<bool> {
         Err(error) if error.raw_os_error() == Some(EAGAIN) => Ok(false),
         Err(error) => Err(error),
     }
+}
+
+/// Asks for large pages under the room of a buffer that is not yet filled, so that filling it faults less often. Nothing
+/// depends on the answer.
+pub fn in_large_pages(buffer: Vec<u8>) -> Vec<u8> {
+    let room = buffer.as_ptr() as usize..buffer.as_ptr() as usize + buffer.capacity();
+    let start = (room.start + PAGE - 1) / PAGE * PAGE;
+    let end = room.end / PAGE * PAGE;
+    if start < end {
+        // SAFETY: the pages lie within the buffer's own room, and this advice changes none of their bytes.
+        unsafe { madvise(start as *mut c_void, end - start, MADV_HUGEPAGE) };
+    }
+    buffer
 }
 
 /// Gives a file to an owner and a group; only root may.

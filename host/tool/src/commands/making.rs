@@ -7,7 +7,7 @@ use crate::files::{self, Access, Content, DIFF_LIMIT};
 use crate::json::Json;
 use crate::report::{Answer, Report};
 use crate::save::Output;
-use crate::sys::Lock;
+use crate::sys::{self, Lock};
 use crate::volume::lock_or_fail;
 use crate::words;
 use minnow::HEAD;
@@ -47,7 +47,7 @@ fn merge(args: &Args, report: &mut Report) -> Result<(), Failure> {
     let first = files::read_diff(Path::new(first))?;
     let second = files::read_diff(Path::new(second))?;
     let output = Output::new(out, args.flag("--force"), &[first.is(), second.is()])?;
-    let mut merged = vec![0; room_for_merge(&first, &second)];
+    let mut merged = sys::in_large_pages(vec![0; room_for_merge(&first, &second)]);
     let length = minnow::merge(&first.bytes, &second.bytes, &mut merged)
         .map_err(|refusal| explain::merge(refusal, &first, &second, merged.len()))?;
     let answer = made(out, &output, &merged[..length])?;
@@ -71,7 +71,7 @@ fn compare(args: &Args, report: &mut Report) -> Result<(), Failure> {
     progress.at(|| format!("comparing into {}", shown(out)));
     let (old, new) = (image(Path::new(old))?, image(Path::new(new))?);
     let output = Output::new(out, args.flag("--force"), &[old.is(), new.is()])?;
-    let mut diff = vec![0; minnow::compared_room(old.bytes.len())];
+    let mut diff = sys::in_large_pages(vec![0; minnow::compared_room(old.bytes.len())]);
     let length = minnow::compare(&old.bytes, &new.bytes, p, q, &mut diff)
         .map_err(|refusal| explain::compare(refusal, (&old, &new), (p, q), diff.len()))?;
     let answer = made(out, &output, &diff[..length])?;
