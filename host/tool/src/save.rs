@@ -3,6 +3,10 @@
 //!
 //! The temporary file is locked while it is written. One that nobody has locked was left by a run that was killed: it is
 //! removed. One that is locked belongs to a run that is alive: that is "try again later".
+//!
+//! A file cannot be created locked, so another run may find it in between, take it for stale and remove it, still empty.
+//! Its creator sees that once it has the lock, and creates another. Of runs that write one name at once, none killed, one
+//! always gets there: the file that is created last stays, for whoever removed it would create a later one.
 
 use crate::failure::{Failure, CANNOT_CREATE, TRY_AGAIN};
 use crate::files::{apart, Argument, Identity};
@@ -15,8 +19,6 @@ use std::os::unix::fs::{MetadataExt, OpenOptionsExt};
 use std::path::{Path, PathBuf};
 
 const SUFFIX: &str = ".minnow-new";
-/// Another run may remove what it takes for stale just as we create it; it does so once.
-const TRIES: usize = 8;
 
 /// What happens to a file that stands where the new one goes.
 #[derive(Clone, Copy, PartialEq, Eq)]
@@ -121,9 +123,12 @@ fn temporary(target: &Path) -> PathBuf {
     PathBuf::from(name)
 }
 
+/// Creates the temporary file and locks it. What stands there is cleared once: what comes after that was created by another
+/// run a moment ago, and two that went on clearing each other's might never end.
 fn create(target: &Path) -> Result<Draft, Failure> {
     let path = temporary(target);
-    for _ in 0..TRIES {
+    let mut cleared = false;
+    loop {
         let opened = OpenOptions::new()
             .read(true)
             .write(true)
@@ -132,11 +137,16 @@ fn create(target: &Path) -> Result<Draft, Failure> {
         match opened {
             Ok(file) if is_ours(&path, &file)? => return Ok(Draft::new(path, file)),
             Ok(_) => {}
-            Err(error) if error.kind() == ErrorKind::AlreadyExists => remove_stale(&path)?,
-            Err(error) => return Err(Failure::output(&path, "cannot create", &error)),
+            Err(error) if error.kind() != ErrorKind::AlreadyExists => {
+                return Err(Failure::output(&path, "cannot create", &error))
+            }
+            Err(_) if cleared => return Err(in_use(&path)),
+            Err(_) => {
+                remove_stale(&path)?;
+                cleared = true;
+            }
         }
     }
-    Err(in_use(&path))
 }
 
 /// Locks the file and looks whether it still has its name.

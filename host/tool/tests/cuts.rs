@@ -7,6 +7,8 @@ use std::path::Path;
 use std::process::{Command, Stdio};
 use std::time::{Duration, Instant};
 
+/// A rename as strace knows it: Arm has only the second call, and "?" passes over the one that is missing.
+const RENAME: &str = "?rename,?renameat";
 const BLOCKS: [(u32, u8); 3] = [(0, 1), (2, 2), (3, 3)];
 
 fn ready() -> Folder {
@@ -15,27 +17,6 @@ fn ready() -> Folder {
         .volume(4, 0, &clean(7))
         .write("d", &diff(LOG, 7, 9, &BLOCKS));
     folder
-}
-
-fn strace(folder: &Folder, options: &[&str], line: &str) -> Answer {
-    let output = Command::new("strace")
-        .args(options)
-        .arg(binary())
-        .args(line.split_whitespace())
-        .current_dir(&folder.0)
-        .output();
-    Answer::of(output.expect("strace runs"))
-}
-
-fn can_trace(test: &str) -> bool {
-    let tried = Command::new("strace")
-        .args(["-o", "/dev/null", "true"])
-        .output();
-    let works = tried.map_or(false, |output| output.status.success());
-    if !works {
-        skipped(test, "strace cannot be used here");
-    }
-    works
 }
 
 /// The state is true of the volume, byte for byte.
@@ -79,7 +60,7 @@ fn killed_at_each_call_it_goes_on_from_there() {
         "openat",
         "write",
         "fsync",
-        "rename",
+        RENAME,
         "msync",
         "munmap",
         "exit_group",
@@ -98,6 +79,7 @@ fn killed_at_each_call_it_goes_on_from_there() {
             if answer.status == Some(0) {
                 break;
             }
+            assert_eq!(answer.status, None, "{place}: {answer:?}");
             cuts += 1;
             finish(&folder, &new, &place);
         }
@@ -123,10 +105,10 @@ fn the_calls_come_in_this_order() {
         return;
     }
     let folder = ready();
-    let calls = "trace=fallocate,openat,write,fsync,rename,msync";
+    let calls = format!("trace=fallocate,openat,write,fsync,{RENAME},msync");
     let answer = strace(
         &folder,
-        &["-y", "-o", "trace", "-e", calls],
+        &["-y", "-o", "trace", "-e", &calls],
         "apply vol d --quiet",
     );
     answer.is_silent();
@@ -170,6 +152,7 @@ fn step(line: &str, folder: &str) -> Option<String> {
     match call {
         "openat" => line.contains("O_EXCL").then(|| "create".to_string()),
         "write" | "fsync" => Some(format!("{call} {on}")),
+        "renameat" => Some("rename".to_string()),
         "fallocate" | "rename" | "msync" => Some(call.to_string()),
         _ => None,
     }
@@ -182,11 +165,12 @@ fn a_volume_cut_short_under_the_apply() {
         return;
     }
     let folder = ready();
-    let delay = "inject=rename:delay_exit=1000000:when=1";
-    let options = ["-o", "/dev/null", "-e", "trace=rename", "-e", delay];
+    let trace = format!("trace={RENAME}");
+    let delay = format!("inject={RENAME}:delay_exit=1000000:when=1");
+    let options = ["-o", "/dev/null", "-e", &trace, "-e", &delay];
     let answer = std::thread::scope(|scope| {
         let run = scope.spawn(|| strace(&folder, &options, "apply vol d"));
-        while folder.read("vol.state") == clean(7) {
+        while folder.read("vol.state") == clean(7) && !run.is_finished() {
             std::thread::sleep(Duration::from_millis(10));
         }
         folder.write("vol", b"");

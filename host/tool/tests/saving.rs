@@ -3,9 +3,11 @@
 mod common;
 use common::*;
 use std::fs::{self, File};
+use std::io::Write;
 use std::os::unix::io::AsRawFd;
 use std::path::{Path, PathBuf};
 use std::process::{Command, Stdio};
+use std::time::Duration;
 
 extern "C" {
     fn flock(fd: i32, operation: i32) -> i32;
@@ -13,17 +15,32 @@ extern "C" {
 
 const SHARED: i32 = 1;
 const EXCLUSIVE: i32 = 2;
+const AT_ONCE: i32 = 4;
+const UNLOCK: i32 = 8;
+
+/// A locked file. To close it would not unlock it at once: a child that another test is starting has a copy of every
+/// descriptor until it becomes its program.
+struct Locked(File);
+
+impl Locked {
+    fn new(path: &Path, operation: i32) -> Option<Locked> {
+        let file = File::options().read(true).write(true).open(path).ok()?;
+        // SAFETY: two numbers are passed, the first an open descriptor.
+        let answer = unsafe { flock(file.as_raw_fd(), operation | AT_ONCE) };
+        (answer == 0).then(|| Locked(file))
+    }
+}
+
+impl Drop for Locked {
+    fn drop(&mut self) {
+        // SAFETY: two numbers are passed, the first an open descriptor.
+        unsafe { flock(self.0.as_raw_fd(), UNLOCK) };
+    }
+}
 
 /// Locks a file until it is dropped.
-fn locked(path: &Path, operation: i32) -> File {
-    let file = File::options()
-        .read(true)
-        .write(true)
-        .open(path)
-        .expect("a file to lock");
-    // SAFETY: two numbers are passed, the first an open descriptor.
-    assert_eq!(unsafe { flock(file.as_raw_fd(), operation) }, 0);
-    file
+fn locked(path: &Path, operation: i32) -> Locked {
+    Locked::new(path, operation).expect("a file to lock")
 }
 
 fn ready() -> Folder {
@@ -136,21 +153,48 @@ fn two_at_once_make_one_output() {
             folder
                 .command()
                 .args(["merge", "d", "e", "-o", "out", "--quiet"])
-                .stderr(Stdio::null())
+                .stderr(Stdio::piped())
                 .spawn()
+                .expect("a run")
         };
-        let mut runs = [spawn().expect("a run"), spawn().expect("a run")];
-        let mut statuses: Vec<Option<i32>> = runs
-            .iter_mut()
-            .map(|run| run.wait().expect("a run").code())
-            .collect();
-        statuses.sort();
-        assert_eq!(statuses[0], Some(0));
-        assert!(matches!(statuses[1], Some(73 | 75)), "{statuses:?}");
+        let mut answers = [spawn(), spawn()]
+            .map(|run| Answer::of(run.wait_with_output().expect("the end of a run")));
+        answers.sort_by_key(|answer| answer.status);
+        assert_eq!(answers[0].status, Some(0), "{answers:?}");
+        assert!(matches!(answers[1].status, Some(73 | 75)), "{answers:?}");
         assert_eq!(folder.read("out"), diff(LOG, 5, 10, &[(1, 1)]));
         assert_eq!(folder.names(), ["d", "e", "out", "vol", "vol.state"]);
         fs::remove_file(folder.path("out")).expect("the output");
     }
+}
+
+/// Other runs may take the temporary file for stale in the moment between its creation and its lock, which is made long here.
+#[test]
+fn a_file_taken_for_stale_is_created_again() {
+    if !can_trace("a_file_taken_for_stale_is_created_again") {
+        return;
+    }
+    let folder = ready();
+    let pause = "inject=flock:delay_enter=100000";
+    let options = ["-o", "/dev/null", "-e", "trace=flock", "-e", pause];
+    let (answer, taken) = std::thread::scope(|scope| {
+        let run = scope.spawn(|| strace(&folder, &options, "merge d e -o out"));
+        let mut taken = 0;
+        while taken < 20 && !run.is_finished() {
+            taken += u32::from(take_for_stale(&folder.path("out.minnow-new")));
+            std::thread::sleep(Duration::from_millis(1));
+        }
+        (run.join().expect("a run"), taken)
+    });
+    assert!(taken > 0, "the run was never seen");
+    answer.says("out: log 5 to 10, 1 block, 542 bytes");
+    assert_eq!(folder.read("out"), diff(LOG, 5, 10, &[(1, 1)]));
+    assert_eq!(folder.names(), ["d", "e", "out", "vol", "vol.state"]);
+}
+
+/// Removes a file if nobody has locked it.
+fn take_for_stale(path: &Path) -> bool {
+    Locked::new(path, EXCLUSIVE).map_or(false, |_lock| fs::remove_file(path).is_ok())
 }
 
 /// A limit on file sizes stands for a disk that fills up while a result is written.
@@ -186,22 +230,18 @@ impl Disk {
         }
     }
 
-    /// Writes until nothing more fits.
+    /// Writes until nothing more fits. Nothing is removed: a child that another test is starting could keep the room of a
+    /// removed file for a moment.
     fn fill(&self) {
-        let mut size = 65_536;
-        while size >= 512 {
-            let name = self.0.join(format!("filler-{size}"));
-            if fs::write(&name, vec![1; size]).is_err() {
-                let _ = fs::remove_file(&name);
-            }
-            size /= 2;
-        }
+        let mut filler = File::create(self.0.join("filler")).expect("a filler");
+        while filler.write_all(&[1; 512]).is_ok() {}
     }
 }
 
 impl Drop for Disk {
     fn drop(&mut self) {
-        let _ = Command::new("umount").arg(&self.0).status();
+        // Lazily: a child that another test is starting may have a file of the disk open for a moment.
+        let _ = Command::new("umount").arg("-l").arg(&self.0).status();
     }
 }
 

@@ -226,3 +226,25 @@ pub fn is_root() -> bool {
 pub fn skipped(test: &str, why: &str) {
     println!("skipped: {test}: {why}");
 }
+
+/// Runs words, as `line` does, under strace.
+pub fn strace(folder: &Folder, options: &[&str], line: &str) -> Answer {
+    let output = Command::new("strace")
+        .args(options)
+        .arg(binary())
+        .args(line.split_whitespace())
+        .current_dir(&folder.0)
+        .output();
+    Answer::of(output.expect("strace runs"))
+}
+
+pub fn can_trace(test: &str) -> bool {
+    let tried = Command::new("strace")
+        .args(["-o", "/dev/null", "true"])
+        .output();
+    let works = tried.map_or(false, |output| output.status.success());
+    if !works {
+        skipped(test, "strace cannot be used here");
+    }
+    works
+}
