@@ -29,7 +29,7 @@ extern "C" {
         e: u64,
         out: *mut u8,
         out_len: usize,
-        length: *mut usize,
+        size: *mut usize,
     ) -> u32;
 
     fn minnow_decide(
@@ -73,7 +73,7 @@ extern "C" {
         second_len: usize,
         out: *mut u8,
         out_len: usize,
-        length: *mut usize,
+        size: *mut usize,
     ) -> u32;
 
     fn minnow_compare(
@@ -85,7 +85,7 @@ extern "C" {
         q: u64,
         out: *mut u8,
         out_len: usize,
-        length: *mut usize,
+        size: *mut usize,
     ) -> u32;
 
     fn minnow_read_through(
@@ -107,7 +107,7 @@ extern "C" {
         target: u64,
         places: *mut usize,
         places_len: usize,
-        length: *mut usize,
+        size: *mut usize,
     ) -> u32;
 
     fn minnow_lag(state: *const u8, state_len: usize, target: u64, gids: *mut i64) -> u32;

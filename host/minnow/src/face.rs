@@ -1,9 +1,9 @@
 //! The C interface of the proved library, as `include/minnow.h` declares it: a slice is a pointer and then a length.
 //!
 //! Each call answers 0 or the number of a refusal. A caller owes what the header says: every pointer is non-null, aligned and
-//! valid for its length (also where that is 0), for writing where it is `*mut`, and no memory that is written through
-//! overlaps any other memory handed over. Any bytes may stand in it. Whoever does not need the raw calls has the safe ones
-//! of the crate, with the same names.
+//! valid for its length (also where that is 0), for writing where it is `*mut`; no memory that is written through overlaps any
+//! other memory handed over; and nothing else writes to that memory while the call runs. Any bytes may stand in it. Whoever
+//! does not need the raw calls has the safe ones of the crate, with the same names.
 
 extern "C" {
     /// Checks a diff; refusals 1 to 6.
@@ -34,7 +34,7 @@ extern "C" {
         e: u64,
         out: *mut u8,
         out_len: usize,
-        length: *mut usize,
+        size: *mut usize,
     ) -> u32;
 
     /// Decides an apply; refusals 1 to 9, 11 to 14, 17.
@@ -82,7 +82,7 @@ extern "C" {
         second_len: usize,
         out: *mut u8,
         out_len: usize,
-        length: *mut usize,
+        size: *mut usize,
     ) -> u32;
 
     /// Writes the compared diff of two images; refusals 3, 8, 17.
@@ -95,7 +95,7 @@ extern "C" {
         q: u64,
         out: *mut u8,
         out_len: usize,
-        length: *mut usize,
+        size: *mut usize,
     ) -> u32;
 
     /// Says where block a stands after the apply of a diff; refusals 1 to 6, 8, 9.
@@ -119,7 +119,7 @@ extern "C" {
         target: u64,
         places: *mut usize,
         places_len: usize,
-        length: *mut usize,
+        size: *mut usize,
     ) -> u32;
 
     /// The lag; refusals 7, 20.

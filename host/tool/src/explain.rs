@@ -109,7 +109,8 @@ fn bad_head(kind: u8, spare: u8, (p, q): (u64, u64)) -> Option<String> {
     (p >= q).then(|| format!("it would lead from gid {p} to {q}, not forward"))
 }
 
-fn addresses(bytes: &[u8]) -> impl Iterator<Item = (usize, u64)> + '_ {
+/// Where each record of a diff stands, and the block that it names.
+pub fn addresses(bytes: &[u8]) -> impl Iterator<Item = (usize, u64)> + '_ {
     let starts = (HEAD..bytes.len()).step_by(RECORD);
     starts.map(|at| (at, number::<4>(bytes, at + 2)))
 }
@@ -368,9 +369,12 @@ pub fn plan(
     target: u64,
 ) -> Failure {
     let sentence = match refusal {
-        Refusal::ShelfFull => Some(format!("{count} diffs, a shelf holds {PLACES}")),
+        Refusal::ShelfFull => {
+            let sentence = format!("{count} diffs, a shelf holds {PLACES}");
+            return Failure::refused_at_all(refusal, sentence);
+        }
         Refusal::BadState => return self::state(refusal, state.content()),
-        Refusal::BadGid => Some(bad_gid(target)),
+        Refusal::BadGid => return Failure::refused_at_all(refusal, bad_gid(target)),
         Refusal::NoChain => minnow::read_state(state.record())
             .ok()
             .map(|at| no_chain(heads, at, target)),
@@ -384,8 +388,8 @@ fn bad_gid(target: u64) -> String {
 }
 
 fn no_chain(heads: &[Head], state: State, target: u64) -> String {
-    let count = heads.len();
-    let lead = format!("no list of the {count} diffs leads from {state} to clean {target}");
+    let diffs = words::count(heads.len() as u64, "diff");
+    let lead = format!("no list of the {diffs} leads from {state} to clean {target}");
     if state.e > target {
         let e = state.e;
         return format!("{lead}; the volume has bytes up to gid {e}, and no diff leads back");
@@ -406,7 +410,7 @@ fn no_chain(heads: &[Head], state: State, target: u64) -> String {
 /// A refusal of the lag.
 pub fn lag(refusal: Refusal, state: &StateFile, target: u64) -> Failure {
     match refusal {
-        Refusal::BadGid => Failure::refused(refusal, state.name(), bad_gid(target)),
+        Refusal::BadGid => Failure::refused_at_all(refusal, bad_gid(target)),
         _ => self::state(refusal, state.content()),
     }
 }

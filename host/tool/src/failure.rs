@@ -8,6 +8,7 @@ use std::path::Path;
 pub const USAGE: u8 = 64;
 pub const NO_INPUT: u8 = 66;
 pub const INTERNAL: u8 = 70;
+pub const NO_MEMORY: u8 = 71;
 pub const CANNOT_CREATE: u8 = 73;
 pub const IO: u8 = 74;
 pub const TRY_AGAIN: u8 = 75;
@@ -39,9 +40,16 @@ impl Failure {
 
     /// The library's no; the file it is about, and what it means there.
     pub fn refused(refusal: Refusal, file: &str, meaning: String) -> Failure {
+        let mut failure = Failure::refused_at_all(refusal, meaning);
+        failure.file = Some(file.to_string());
+        failure
+    }
+
+    /// The library's no to the command as a whole; it is about no file.
+    pub fn refused_at_all(refusal: Refusal, meaning: String) -> Failure {
         // A refusal's number is at most 20.
         let status = u8::try_from(refusal.number()).unwrap_or(INTERNAL);
-        let mut failure = Failure::new(status, Some(file.to_string()), meaning);
+        let mut failure = Failure::new(status, None, meaning);
         failure.refusal = Some(refusal);
         failure
     }
@@ -54,6 +62,11 @@ impl Failure {
         Failure::new(INTERNAL, None, message.into())
     }
 
+    /// No room in memory for so many bytes of a file.
+    pub fn memory(path: &Path, bytes: usize) -> Failure {
+        Failure::about(path, NO_MEMORY, format!("no memory for {bytes} bytes"))
+    }
+
     pub fn about(path: &Path, status: u8, message: impl Into<String>) -> Failure {
         Failure::new(status, Some(shown(path)), message.into())
     }
@@ -63,6 +76,7 @@ impl Failure {
         let status = match error.kind() {
             io::ErrorKind::NotFound => NO_INPUT,
             io::ErrorKind::PermissionDenied => NO_PERMISSION,
+            io::ErrorKind::OutOfMemory => NO_MEMORY,
             _ if error.raw_os_error() == Some(EROFS) => NO_PERMISSION,
             _ if is_no_file(error) => NO_INPUT,
             _ => IO,
@@ -74,6 +88,7 @@ impl Failure {
     pub fn output(path: &Path, doing: &str, error: &io::Error) -> Failure {
         let status = match error.kind() {
             io::ErrorKind::PermissionDenied => NO_PERMISSION,
+            io::ErrorKind::OutOfMemory => NO_MEMORY,
             io::ErrorKind::NotFound | io::ErrorKind::AlreadyExists => CANNOT_CREATE,
             _ if error.raw_os_error() == Some(EROFS) || is_no_file(error) => CANNOT_CREATE,
             _ => IO,

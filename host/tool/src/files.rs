@@ -102,8 +102,8 @@ pub fn read_diff(path: &Path) -> Result<Content, Failure> {
     content(open(path, Access::Read)?, "diff", DIFF_LIMIT)
 }
 
-pub fn read_state(path: &Path) -> Result<Content, Failure> {
-    content(open(path, Access::Read)?, "state", STATE_LIMIT)
+pub fn read_state(opened: Opened) -> Result<Content, Failure> {
+    content(opened, "state", STATE_LIMIT)
 }
 
 /// The image in a file that is open.
@@ -117,7 +117,7 @@ fn content(opened: Opened, what: &'static str, limit: usize) -> Result<Content, 
     let expected = usize::try_from(opened.size.min(most)).unwrap_or(limit);
     let mut bytes = Vec::new();
     let room = bytes.try_reserve_exact(expected + 1);
-    room.map_err(|_| Failure::internal(format!("no memory for the {expected} bytes of a file")))?;
+    room.map_err(|_| Failure::memory(&opened.path, expected))?;
     let mut bytes = sys::in_large_pages(bytes);
     (&opened.file)
         .take(most)

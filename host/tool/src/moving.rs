@@ -6,7 +6,7 @@ use crate::failure::Failure;
 use crate::files::Content;
 use crate::progress::Progress;
 use crate::volume::{StateFile, Volume};
-use minnow::{Head, State};
+use minnow::{Head, Refusal, State};
 
 /// Records of a run: enough that checking the diff anew for each does not matter, few enough that progress shows.
 const RUN: usize = 1024;
@@ -29,11 +29,12 @@ pub fn apply(
     let done = read_back(&further.done)?;
 
     progress.at(|| format!("{}: setting room aside", volume.name()));
-    volume.reserve()?;
+    volume.reserve(diff)?;
     state.save(&further.during)?;
     move_blocks(volume, diff, &head, progress)?;
     progress.at(|| format!("{}: flushing", volume.name()));
     volume.flush()?;
+    volume.is_as_long_as_it_was()?;
     state.save(&further.done)?;
     Ok(Moved { head, state: done })
 }
@@ -58,6 +59,15 @@ fn move_blocks(
 pub fn read_back(record: &[u8]) -> Result<State, Failure> {
     minnow::read_state(record)
         .map_err(|refusal| Failure::internal(format!("a decided state is refused: {refusal}")))
+}
+
+/// Whether the volume is an image at all, as far as diffs that were to fit it say.
+pub fn is_image(fits: &[Result<(), Failure>]) -> Result<(), Failure> {
+    let said = |fit: &&Result<(), Failure>| match fit {
+        Err(failure) => failure.refusal == Some(Refusal::BadImage),
+        Ok(()) => false,
+    };
+    fits.iter().find(said).cloned().unwrap_or(Ok(()))
 }
 
 /// Whether a diff would fit the volume: a run of no records makes every check of a run and writes nothing.

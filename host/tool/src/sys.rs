@@ -1,9 +1,11 @@
-//! The few functions of libc that std lacks: mapped files, large pages, locks, the allocation of a file's blocks, owners, terminals, a rename that never
-//! overwrites, and two signals. Linux on x86-64 and aarch64, where `off_t` has 64 bits and these numbers are the same.
+//! The few functions of libc that std lacks, and what else is not safe: mapped files, large pages, memory that may be refused,
+//! locks, the allocation of a file's blocks, owners, terminals, a rename that never overwrites, and two signals. Linux on x86-64 and aarch64, where `off_t` has 64 bits and these numbers are the same.
 
+use std::alloc::{alloc_zeroed, Layout};
 use std::ffi::CString;
 use std::fs::File;
 use std::io;
+use std::ops::Range;
 use std::os::raw::{c_char, c_int, c_uint, c_void};
 use std::os::unix::ffi::OsStrExt;
 use std::os::unix::io::AsRawFd;
@@ -32,6 +34,9 @@ const LOCK_SH: c_int = 1;
 const LOCK_EX: c_int = 2;
 const LOCK_NB: c_int = 4;
 const MADV_HUGEPAGE: c_int = 14;
+const FALLOC_FL_KEEP_SIZE: c_int = 1;
+/// No owner at all: fchown leaves the one that there is.
+const AS_IT_IS: c_uint = c_uint::MAX;
 /// The largest page that a machine of these has as its smallest.
 const PAGE: usize = 64 * 1024;
 const AT_FDCWD: c_int = -100;
@@ -138,6 +143,16 @@ fn done(answer: c_int) -> io::Result<()> {
     }
 }
 
+/// Makes a call until no signal cuts it.
+fn uninterrupted(call: impl Fn() -> c_int) -> io::Result<()> {
+    loop {
+        match done(call()) {
+            Err(error) if error.raw_os_error() == Some(EINTR) => continue,
+            answer => return answer,
+        }
+    }
+}
+
 /// How a file is locked: by one alone, or by any number of readers.
 #[derive(Clone, Copy, PartialEq, Eq)]
 pub enum Lock {
@@ -152,7 +167,8 @@ pub fn lock(file: &File, lock: Lock) -> io::Result<bool> {
         Lock::Shared => LOCK_SH,
     };
     // SAFETY: two numbers are passed; the descriptor is open while `file` lives.
-    match done(unsafe { flock(file.as_raw_fd(), operation | LOCK_NB) }) {
+    let locked = uninterrupted(|| unsafe { flock(file.as_raw_fd(), operation | LOCK_NB) });
+    match locked {
         Ok(()) => Ok(true),
         Err(error) if error.raw_os_error() == Some(EAGAIN) => Ok(false),
         Err(error) => Err(error),
@@ -172,10 +188,10 @@ pub fn in_large_pages(buffer: Vec<u8>) -> Vec<u8> {
     buffer
 }
 
-/// Gives a file to an owner and a group; only root may.
-pub fn give(file: &File, owner: u32, group: u32) -> io::Result<()> {
+/// Gives a file to an owner, if one is named, and to a group.
+pub fn give(file: &File, owner: Option<u32>, group: u32) -> io::Result<()> {
     // SAFETY: numbers are passed; the descriptor is open while `file` lives.
-    done(unsafe { fchown(file.as_raw_fd(), owner, group) })
+    done(unsafe { fchown(file.as_raw_fd(), owner.unwrap_or(AS_IT_IS), group) })
 }
 
 pub fn is_terminal(stream: &impl AsRawFd) -> bool {
@@ -183,15 +199,24 @@ pub fn is_terminal(stream: &impl AsRawFd) -> bool {
     unsafe { isatty(stream.as_raw_fd()) == 1 }
 }
 
-/// Has the file system set aside room for the file's first `len` bytes. What they hold stays.
-pub fn allocate(file: &File, len: i64) -> io::Result<()> {
-    loop {
-        // SAFETY: numbers are passed; the descriptor is open while `file` lives.
-        match done(unsafe { fallocate(file.as_raw_fd(), 0, 0, len) }) {
-            Err(error) if error.raw_os_error() == Some(EINTR) => continue,
-            answer => return answer,
-        }
+/// Has the file system set aside room for these bytes of the file. What they hold stays, and so does the file's length.
+pub fn allocate(file: &File, bytes: &Range<i64>) -> io::Result<()> {
+    let (start, len) = (bytes.start, bytes.end - bytes.start);
+    // SAFETY: numbers are passed; the descriptor is open while `file` lives.
+    uninterrupted(|| unsafe { fallocate(file.as_raw_fd(), FALLOC_FL_KEEP_SIZE, start, len) })
+}
+
+/// Zeros in memory that is not touched yet, or the error that there is no such room.
+pub fn zeros(len: usize) -> io::Result<Vec<u8>> {
+    let none = || io::Error::from(io::ErrorKind::OutOfMemory);
+    let layout = Layout::array::<u8>(len).map_err(|_| none())?;
+    if len == 0 {
+        return Ok(Vec::new());
     }
+    // SAFETY: the layout has a size above 0.
+    let at = NonNull::new(unsafe { alloc_zeroed(layout) }).ok_or_else(none)?;
+    // SAFETY: `len` bytes of this layout, all of them zero, were allocated at `at` a moment ago and are nobody else's.
+    Ok(unsafe { Vec::from_raw_parts(at.as_ptr(), len, len) })
 }
 
 /// Renames, and fails with "exists" where there is a `to`. A file system that has no such rename gets a second link in its
@@ -254,6 +279,37 @@ extern "C" fn say_last_words(_: c_int) {
                 _exit(last.status)
             }
             None => _exit(70),
+        }
+    }
+}
+
+#[cfg(test)]
+mod tests {
+    use super::*;
+
+    /// A file that somebody cut short is not made longer again.
+    #[test]
+    fn room_set_aside_leaves_the_length_as_it_is() -> io::Result<()> {
+        let name = format!("minnow-room-{}", std::process::id());
+        let path = std::env::temp_dir().join(name);
+        std::fs::write(&path, b"short")?;
+        let file = File::options().write(true).open(&path)?;
+        std::fs::remove_file(&path)?;
+        match allocate(&file, &(0..8192)) {
+            Err(error) if error.raw_os_error() == Some(EOPNOTSUPP) => return Ok(()),
+            answer => answer?,
+        }
+        assert_eq!(file.metadata()?.len(), 5);
+        Ok(())
+    }
+
+    #[test]
+    fn memory_is_given_or_refused() {
+        assert_eq!(zeros(0).ok(), Some(Vec::new()));
+        assert_eq!(zeros(5).ok(), Some(vec![0; 5]));
+        for far_too_much in [usize::MAX, isize::MAX as usize - 4096] {
+            let refused = zeros(far_too_much).map_err(|error| error.kind());
+            assert_eq!(refused, Err(io::ErrorKind::OutOfMemory));
         }
     }
 }

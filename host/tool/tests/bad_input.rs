@@ -254,7 +254,7 @@ fn outputs_that_no_file_can_be() {
         ("x-new/", "names no file"),
         ("..", "names no file"),
         ("/", "names no file"),
-        ("x-none/out", "cannot create: No such file"),
+        ("x-none/out", "cannot open the folder: No such file"),
         ("vol/out", "Not a directory"),
     ] {
         for force in ["", "--force"] {

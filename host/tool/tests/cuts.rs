@@ -3,6 +3,7 @@
 
 mod common;
 use common::*;
+use std::fs::File;
 use std::path::Path;
 use std::process::{Command, Stdio};
 use std::time::{Duration, Instant};
@@ -182,6 +183,55 @@ fn a_volume_cut_short_under_the_apply() {
     );
     assert_eq!(folder.read("vol.state"), pair(7, 9));
     assert_eq!(folder.names(), ["d", "vol", "vol.state"]);
+}
+
+/// A volume that grows while its blocks move was in other hands: Done is not saved.
+#[test]
+fn a_volume_that_grows_under_the_apply() {
+    if !can_trace("a_volume_that_grows_under_the_apply") {
+        return;
+    }
+    let folder = ready();
+    let delay = "inject=msync:delay_enter=1000000";
+    let options = ["-o", "/dev/null", "-e", "trace=msync", "-e", delay];
+    let answer = std::thread::scope(|scope| {
+        let run = scope.spawn(|| strace(&folder, &options, "apply vol d"));
+        while folder.read("vol.state") == clean(7) && !run.is_finished() {
+            std::thread::sleep(Duration::from_millis(10));
+        }
+        let volume = File::options().write(true).open(folder.path("vol"));
+        volume
+            .and_then(|volume| volume.set_len(4096))
+            .expect("a longer volume");
+        run.join().expect("a run")
+    });
+    let said = "vol: its length changed while its blocks moved; the state says so, apply again";
+    answer.fails(74, said);
+    assert_eq!(folder.read("vol.state"), pair(7, 9));
+    assert_eq!(folder.names(), ["d", "vol", "vol.state"]);
+}
+
+/// A volume that is cut short between the look at its length and the look at its block.
+#[test]
+fn a_volume_cut_short_under_a_look() {
+    if !can_trace("a_volume_cut_short_under_a_look") {
+        return;
+    }
+    let folder = ready();
+    let delay = "inject=flock:delay_exit=1000000";
+    let options = ["-o", "/dev/null", "-e", "trace=flock", "-e", delay];
+    let answer = std::thread::scope(|scope| {
+        let run = scope.spawn(|| strace(&folder, &options, "show vol d 1"));
+        while !is_locked(&folder.path("vol")) && !run.is_finished() {
+            std::thread::sleep(Duration::from_millis(10));
+        }
+        folder.write("vol", b"");
+        run.join().expect("a run")
+    });
+    answer.fails(
+        74,
+        "vol: the disk failed, or the file was cut, while it was read",
+    );
 }
 
 /// A merge that contains the diff of a cut apply goes on from there, too; a compared one or a shorter one does not.

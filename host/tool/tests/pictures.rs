@@ -76,7 +76,7 @@ fn a_picture_that_exists_is_replaced_only_with_force() {
     folder.line("plan vol 9 s0 s1 --force").fails(64, said);
     folder
         .line("plan vol 9 s0 s1 --svg no/p.svg")
-        .fails_with(73, "cannot create");
+        .fails_with(73, "no: cannot open the folder");
 }
 
 #[test]

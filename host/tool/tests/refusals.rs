@@ -203,6 +203,7 @@ fn bad_image() {
             "apply vol d",
             "show vol d 0",
             "restore vol 9 d",
+            "restore vol 7 d",
             "compare vol one --from 1 --to 2 -o out",
             "compare one vol --from 1 --to 2 -o out",
         ] {
@@ -318,7 +319,7 @@ fn shelf_full() {
             &folder,
             &line,
             18,
-            "vol.state: 18 ShelfFull: 97 diffs, a shelf holds 96",
+            "minnow: 18 ShelfFull: 97 diffs, a shelf holds 96",
         );
     }
     let line = format!("plan vol 9 {}", "d ".repeat(96));
@@ -352,10 +353,16 @@ fn no_chain() {
 }
 
 #[test]
+fn no_chain_of_one() {
+    let folder = with_diff(&head(LOG, 5, 8, 0));
+    let said = "vol.state: 19 NoChain: no list of the 1 diff leads from clean 7 to clean 9; none of them ends at 9";
+    refused(&folder, "plan vol 9 d", 19, said);
+}
+
+#[test]
 fn bad_gid() {
     let folder = with_diff(&head(LOG, 5, 9, 0));
-    let said =
-        "vol.state: 20 BadGid: the target gid 9223372036854775808 is above 9223372036854775807";
+    let said = "minnow: 20 BadGid: the target gid 9223372036854775808 is above 9223372036854775807";
     for line in [
         "plan vol 9223372036854775808 d",
         "restore vol 9223372036854775808 d",
@@ -376,6 +383,9 @@ fn refusals_in_json() {
         "{\"command\":\"apply\",\"status\":12,\"refusal\":\"Gap\",\"file\":\"d\",\
          \"message\":\"the diff starts at gid 8, the volume stands at 7\"}\n"
     );
+    let answer = folder.line("lag vol 9223372036854775808 --json");
+    let opening = "{\"command\":\"lag\",\"status\":20,\"refusal\":\"BadGid\",\"message\":";
+    assert!(answer.out.starts_with(opening), "{answer:?}");
     folder.line("apply vol d --quiet").fails(
         12,
         "d: 12 Gap: the diff starts at gid 8, the volume stands at 7",

@@ -27,8 +27,8 @@ pub const APPLY: Command = Command {
     help: "usage: minnow apply VOLUME DIFF [--state FILE]\n\n\
         Saves While, moves the blocks in place, flushes the volume, saves Done, in this order. If it is cut\n\
         at any point, the same command, or one with a merge that contains the diff, goes on from there.\n\
-        The state is VOLUME.state unless --state names another file. The volume is locked meanwhile:\n\
-        a second minnow on it ends with 75.",
+        The state is VOLUME.state unless --state names another file. The volume and the state are locked\n\
+        meanwhile: a second minnow on either ends with 75.",
     options: &[args::STATE],
     run: apply,
 };
@@ -36,7 +36,9 @@ pub const APPLY: Command = Command {
 fn decide(args: &Args, report: &mut Report) -> Result<(), Failure> {
     let [volume, diff] = args.exactly(["VOLUME", "DIFF"])?;
     let volume = Volume::to_measure(Path::new(volume))?;
-    let (state, diff) = beside(&volume, args.path("--state"), Path::new(diff))?;
+    let state = StateFile::of(volume.path(), args.path("--state"))?;
+    apart(volume.is(), state.is())?;
+    let diff = diff_beside(&volume, &state, Path::new(diff))?;
     let decided = minnow::decide(&diff.bytes, state.record(), volume.image());
     let further = decided.map_err(|refusal| explain::apply(refusal, &diff, &state, &volume))?;
     let (during, done) = (read_back(&further.during)?, read_back(&further.done)?);
@@ -55,7 +57,8 @@ fn decide(args: &Args, report: &mut Report) -> Result<(), Failure> {
 fn apply(args: &Args, report: &mut Report) -> Result<(), Failure> {
     let [volume, diff] = args.exactly(["VOLUME", "DIFF"])?;
     let mut volume = Volume::to_change(Path::new(volume))?;
-    let (mut state, diff) = beside(&volume, args.path("--state"), Path::new(diff))?;
+    let mut state = StateFile::to_change(&volume, args.path("--state"))?;
+    let diff = diff_beside(&volume, &state, Path::new(diff))?;
     report.on_bus_error(&volume.bus_error());
     let progress = report.progress();
     let moved = moving::apply(&mut volume, &mut state, &diff, &progress)?;
@@ -74,16 +77,11 @@ fn apply(args: &Args, report: &mut Report) -> Result<(), Failure> {
     Ok(())
 }
 
-/// The state and the diff that go with a volume: three different files.
-fn beside(
-    volume: &Volume,
-    state: Option<&Path>,
-    diff: &Path,
-) -> Result<(StateFile, Content), Failure> {
-    let state = StateFile::of(volume.path(), state)?;
-    apart(volume.is(), state.is())?;
+/// Reads a diff that is neither the volume nor the state. Neither it nor the volume stands where the state is written first.
+fn diff_beside(volume: &Volume, state: &StateFile, diff: &Path) -> Result<Content, Failure> {
     let diff = files::read_diff(diff)?;
     apart(volume.is(), diff.is())?;
     apart(state.is(), diff.is())?;
-    Ok((state, diff))
+    state.draft_apart(&[volume.is(), diff.is()])?;
+    Ok(diff)
 }

@@ -47,7 +47,7 @@ fn merge(args: &Args, report: &mut Report) -> Result<(), Failure> {
     let first = files::read_diff(Path::new(first))?;
     let second = files::read_diff(Path::new(second))?;
     let output = Output::new(out, args.flag("--force"), &[first.is(), second.is()])?;
-    let mut merged = sys::in_large_pages(vec![0; room_for_merge(&first, &second)]);
+    let mut merged = room(out, room_for_merge(&first, &second))?;
     let length = minnow::merge(&first.bytes, &second.bytes, &mut merged)
         .map_err(|refusal| explain::merge(refusal, &first, &second, merged.len()))?;
     let answer = made(out, &output, &merged[..length])?;
@@ -56,7 +56,13 @@ fn merge(args: &Args, report: &mut Report) -> Result<(), Failure> {
     Ok(())
 }
 
-/// Bytes that always suffice for the merge of two sound diffs. They are zeros; pages that no result reaches are never touched.
+/// Room for an output: zeros; pages that no result reaches are never touched.
+fn room(out: &Path, bytes: usize) -> Result<Vec<u8>, Failure> {
+    let zeros = sys::zeros(bytes).map_err(|_| Failure::memory(out, bytes))?;
+    Ok(sys::in_large_pages(zeros))
+}
+
+/// Bytes that always suffice for the merge of two sound diffs.
 fn room_for_merge(first: &Content, second: &Content) -> usize {
     let both = first.bytes.len() + second.bytes.len();
     both.saturating_sub(HEAD).min(DIFF_LIMIT)
@@ -71,7 +77,7 @@ fn compare(args: &Args, report: &mut Report) -> Result<(), Failure> {
     progress.at(|| format!("comparing into {}", shown(out)));
     let (old, new) = (image(Path::new(old))?, image(Path::new(new))?);
     let output = Output::new(out, args.flag("--force"), &[old.is(), new.is()])?;
-    let mut diff = sys::in_large_pages(vec![0; minnow::compared_room(old.bytes.len())]);
+    let mut diff = room(out, minnow::compared_room(old.bytes.len()))?;
     let length = minnow::compare(&old.bytes, &new.bytes, p, q, &mut diff)
         .map_err(|refusal| explain::compare(refusal, (&old, &new), (p, q), diff.len()))?;
     let answer = made(out, &output, &diff[..length])?;

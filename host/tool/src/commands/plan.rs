@@ -37,7 +37,7 @@ pub const RESTORE: Command = Command {
     help: "usage: minnow restore VOLUME TARGET DIFF.. [--state FILE]\n\n\
         Plans as `minnow plan` does, sees that every diff of the plan fits the volume, and then applies them one\n\
         after the other, each as `minnow apply` does. If it is cut, the same command plans anew from where it was.\n\
-        The volume is locked meanwhile: a second minnow on it ends with 75.",
+        The volume and the state are locked meanwhile: a second minnow on either ends with 75.",
     options: &[args::STATE],
     run: restore,
 };
@@ -244,8 +244,7 @@ fn restore(args: &Args, report: &mut Report) -> Result<(), Failure> {
     let ([volume, target], diffs) = args.and_more(["VOLUME", "TARGET"], "DIFF")?;
     let target = number(target, "TARGET")?;
     let mut volume = Volume::to_change(Path::new(volume))?;
-    let mut state = StateFile::of(volume.path(), args.path("--state"))?;
-    apart(volume.is(), state.is())?;
+    let mut state = StateFile::to_change(&volume, args.path("--state"))?;
     no_more_than_places(diffs.len(), &state, target)?;
     report.on_bus_error(&volume.bus_error());
 
@@ -253,6 +252,7 @@ fn restore(args: &Args, report: &mut Report) -> Result<(), Failure> {
     let mut fits = Vec::new();
     let shelf = filled(diffs, &state, &progress, |diff| {
         apart(volume.is(), diff.is())?;
+        state.draft_apart(&[volume.is(), diff.is()])?;
         fits.push(moving::fits(&mut volume, diff));
         Ok(())
     })?;
@@ -260,6 +260,7 @@ fn restore(args: &Args, report: &mut Report) -> Result<(), Failure> {
     for place in plan.places() {
         fits[*place].clone()?;
     }
+    moving::is_image(&fits)?;
     drop(progress);
     for (done, place) in plan.places().iter().enumerate() {
         let applied = apply_place(&mut volume, &mut state, &shelf, *place, report);

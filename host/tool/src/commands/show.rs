@@ -32,6 +32,7 @@ fn show(args: &Args, report: &mut Report) -> Result<(), Failure> {
     let volume = Volume::to_look_at(Path::new(volume))?;
     let diff = files::read_diff(Path::new(diff))?;
     apart(volume.is(), diff.is())?;
+    report.on_bus_error(&volume.read_error());
     let view = minnow::read_through(&diff.bytes, volume.image(), block)
         .map_err(|refusal| explain::read_through(refusal, &diff, &volume, block))?;
     if args.flag("--raw") {

@@ -3,7 +3,7 @@
 use crate::args::{number, quoted, Args, Command, Opt, FORCE};
 use crate::explain;
 use crate::failure::{shown, Failure};
-use crate::files::{self, Access, Opened};
+use crate::files::{self, Access, Argument, Opened};
 use crate::json::Json;
 use crate::report::{Answer, Report};
 use crate::save::Output;
@@ -20,8 +20,8 @@ pub const STATE: Command = Command {
     help: "usage: minnow state show STATE\n\
         \x20      minnow state new STATE --clean G | --settled B E | --pair B T | --span B T E [--force]\n\n\
         show says what the record holds. new writes a record for a volume of which somebody knows that\n\
-        it is true; a STATE that exists is replaced only with --force. Where STATE is VOLUME.state and\n\
-        there is such a volume, no apply may be under way on it.",
+        it is true; a STATE that exists is replaced only with --force, and not while an apply has it (75).\n\
+        Where STATE is VOLUME.state and there is such a volume, no apply may be under way on that either.",
     options: &[
         Opt::value("--clean"),
         Opt { name: "--settled", values: 2 },
@@ -82,7 +82,7 @@ fn spelt(name: &str, values: &[OsString]) -> Result<State, Failure> {
 }
 
 fn show(path: &Path) -> Result<Answer, Failure> {
-    let record = files::read_state(path)?;
+    let record = files::read_state(files::open(path, Access::Read)?)?;
     let state =
         minnow::read_state(&record.bytes).map_err(|refusal| explain::state(refusal, &record))?;
     Ok(answer(&record.name, state))
@@ -92,8 +92,12 @@ fn new(path: &Path, state: State, force: bool) -> Result<Answer, Failure> {
     let name = shown(path);
     let record = minnow::write_state(state)
         .map_err(|refusal| explain::state_values(refusal, &name, state))?;
-    let _held = hold_volume(path)?;
-    Output::new(path, force, &[])?.save(&record)?;
+    let volume = hold_volume(path)?;
+    let others: Vec<Argument> = volume
+        .iter()
+        .map(|volume| ("volume", &*volume.name, volume.identity))
+        .collect();
+    Output::new(path, force, &others)?.save(&record)?;
     Ok(answer(&name, state))
 }
 

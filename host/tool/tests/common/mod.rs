@@ -3,7 +3,9 @@
 #![allow(dead_code)]
 
 use std::ffi::OsStr;
-use std::fs;
+use std::fs::{self, File};
+use std::os::unix::fs::MetadataExt;
+use std::os::unix::io::AsRawFd;
 use std::path::{Path, PathBuf};
 use std::process::{Command, Output};
 use std::sync::atomic::{AtomicU32, Ordering};
@@ -247,4 +249,45 @@ pub fn can_trace(test: &str) -> bool {
         skipped(test, "strace cannot be used here");
     }
     works
+}
+
+extern "C" {
+    fn flock(fd: i32, operation: i32) -> i32;
+}
+
+pub const SHARED: i32 = 1;
+pub const EXCLUSIVE: i32 = 2;
+const AT_ONCE: i32 = 4;
+const UNLOCK: i32 = 8;
+
+/// A locked file. To close it would not unlock it at once: a child that another test is starting has a copy of every
+/// descriptor until it becomes its program.
+pub struct Locked(File);
+
+impl Locked {
+    pub fn new(path: &Path, operation: i32) -> Option<Locked> {
+        let file = File::options().read(true).write(true).open(path).ok()?;
+        // SAFETY: two numbers are passed, the first an open descriptor.
+        let answer = unsafe { flock(file.as_raw_fd(), operation | AT_ONCE) };
+        (answer == 0).then(|| Locked(file))
+    }
+}
+
+impl Drop for Locked {
+    fn drop(&mut self) {
+        // SAFETY: two numbers are passed, the first an open descriptor.
+        unsafe { flock(self.0.as_raw_fd(), UNLOCK) };
+    }
+}
+
+/// Locks a file until it is dropped.
+pub fn locked(path: &Path, operation: i32) -> Locked {
+    Locked::new(path, operation).expect("a file to lock")
+}
+
+/// Whether anybody has locked a file. To try the lock instead would keep off the run that is waited for.
+pub fn is_locked(path: &Path) -> bool {
+    let inode = fs::metadata(path).map_or(0, |metadata| metadata.ino());
+    let locks = fs::read_to_string("/proc/locks").expect("the list of locks");
+    locks.contains(&format!(":{inode} "))
 }
