@@ -1,3 +1,4 @@
+-- `minnow_compare` meets its contract: what the comparison said and left is its row, case by case.
 use borrow.Author.Needs.{needs}
 use Rattle.desk.proofs.Rows.{length-no, length-yes}
 use Rattle.desk.proofs.diffs.minnow_compare.Statement.{statement}

@@ -1,3 +1,4 @@
+-- `minnow_check` meets its contract: a refusal hands out nothing, and a sound head its four fields.
 use borrow.Author.Needs.{needs}
 use Rattle.desk.proofs.Rows.{head-no, head-yes}
 use Rattle.desk.proofs.records.minnow_check.Statement.{statement}

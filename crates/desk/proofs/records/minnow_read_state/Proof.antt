@@ -1,3 +1,4 @@
+-- `minnow_read_state` meets its contract: a refusal hands out nothing, and a state its kind and its gids.
 use borrow.Author.Needs.{needs}
 use Rattle.desk.proofs.Rows.{state-no, state-yes}
 use Rattle.desk.proofs.records.minnow_read_state.Statement.{statement}

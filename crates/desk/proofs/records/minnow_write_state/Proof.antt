@@ -1,3 +1,4 @@
+-- `minnow_write_state` meets its contract: no state has a kind above 2, and every other value is written or refused as `State::write` says.
 use borrow.Author.Needs.{needs}
 use Rattle.desk.proofs.Rows.{kind-no, length-no, length-yes}
 use Rattle.desk.proofs.records.minnow_write_state.Statement.{statement}

@@ -1,3 +1,4 @@
+-- `minnow_plan` meets its contract: a shelf that is too long or cannot be read is refused; the rest is `plan_on`'s.
 use borrow.Author.Needs.{needs}
 use Rattle.desk.proofs.Planning.{shelf-full, shelf-no, shelf-yes}
 use Rattle.desk.proofs.restores.minnow_plan.Statement.{statement}

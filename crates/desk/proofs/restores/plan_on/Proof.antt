@@ -1,3 +1,4 @@
+-- `plan_on` meets its contract: what the plan says is refused, has no room, or is laid out.
 use borrow.Author.Needs.{needs}
 use Rattle.desk.proofs.Planning.{plan-short, plan-no, plan-yes}
 use Rattle.desk.proofs.restores.plan_on.Statement.{statement}

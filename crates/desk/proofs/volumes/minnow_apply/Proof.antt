@@ -1,3 +1,4 @@
+-- `minnow_apply` meets its contract: with too little room the answer is `without_room`'s; else Done is a state, so its record is written.
 use borrow.Author.Needs.{needs}
 use Rattle.desk.proofs.Deciding.{apply-short, apply-no, apply-yes}
 use Rattle.desk.proofs.volumes.minnow_apply.Statement.{statement}

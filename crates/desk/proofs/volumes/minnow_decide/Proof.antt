@@ -1,3 +1,4 @@
+-- `minnow_decide` meets its contract: the decision's refusals come first, then room for the two records; both states are states, so their records are written.
 use borrow.Author.Needs.{needs}
 use Rattle.desk.proofs.Deciding.{no-room-for-while, no-room-for-done, decide-no, decide-yes}
 use Rattle.desk.proofs.volumes.minnow_decide.Statement.{statement}

@@ -1,3 +1,4 @@
+-- `minnow_lag` meets its contract: the difference fits 64 bits, so it is read back as it was.
 use mathlib.Core.Path.{_≡_}
 use mir.Syntax.{w64}
 use mir.Val.{toZ, ofZ}

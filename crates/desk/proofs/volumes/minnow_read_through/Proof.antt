@@ -1,3 +1,4 @@
+-- `minnow_read_through` meets its contract: each place is a slice and an offset.
 use borrow.Author.Needs.{needs}
 use Rattle.desk.proofs.Rows.{view-no, view-in-diff, view-in-image}
 use Rattle.desk.proofs.volumes.minnow_read_through.Statement.{statement}

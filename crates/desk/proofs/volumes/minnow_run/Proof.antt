@@ -1,3 +1,4 @@
+-- `minnow_run` meets its contract: what the run said and left is its row, case by case.
 use borrow.Author.Needs.{needs}
 use Rattle.desk.proofs.Rows.{run-no, run-yes}
 use Rattle.desk.proofs.volumes.minnow_run.Statement.{statement}

@@ -1,3 +1,4 @@
+-- `without_room` meets its contract: the decision's refusals come first, and NoRoom is what is left.
 use borrow.Author.Needs.{needs}
 use Rattle.desk.proofs.Deciding.{none-no, none-yes}
 use Rattle.desk.proofs.volumes.without_room.Statement.{statement}
