@@ -1,4 +1,6 @@
 // 01, "Moves of a volume": a comparison of two images.
+#![tactic(auto)]
+
 ghost use Rattle.std.specs.Prelude.{◌≡◌, ◌+◌, ◌*◌, ◌≤◌, length};
 ghost use Rattle.paper.specs.Answer.{comes_back, over};
 ghost use Rattle.paper.specs.Diff.{records_of, count_of};

@@ -1,4 +1,6 @@
 // The face of the desk: every call of 01, exported with a C interface of numbers and byte slices.
+#![tactic(auto)]
+
 mod diffs;
 mod records;
 mod restores;

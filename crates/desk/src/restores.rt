@@ -11,7 +11,7 @@ use record::head::{Head, HeadSaid};
 use record::refusal::Refusal;
 
 // What reading a shelf says, and the shelf: where an entry is refused, the shelf has no part in the answer.
-#[derive(Drop)]
+#[derive(Clone, Copy)]
 struct Shelved {
     said: Entries,
     on: Shelf,

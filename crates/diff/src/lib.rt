@@ -1,4 +1,6 @@
 // The check of a diff: any bytes may arrive.
+#![tactic(auto)]
+
 ghost use Rattle.std.specs.Prelude.{◌≡◌};
 ghost use Rattle.paper.specs.Answer.{answer};
 ghost use Rattle.paper.specs.Diff.{read_head, check};

@@ -1,4 +1,6 @@
 // 01, "Moves of a volume": a merge of two log diffs that touch.
+#![tactic(auto)]
+
 ghost use Rattle.std.specs.Prelude.{◌≡◌, ◌++◌, ◌+◌, ◌*◌, ◌≤◌, ◌<◌, min, length, drop};
 ghost use Rattle.paper.specs.Answer.{answer, comes_back, over};
 ghost use Rattle.paper.specs.Diff.{check, rest, address_of, content_of, record_bytes, record_for, records_of, count_of};
@@ -74,7 +76,7 @@ fn merge_sound(first: &[u8], second: &[u8], h0: Head, h1: Head, out: &mut [u8]) 
 const END: u32 = 65_536;
 
 // A record of a diff, with its address; past the last record, with END.
-#[derive(Drop)]
+#[derive(Clone, Copy)]
 struct Cursor {
     place: usize,
     address: u32,
@@ -117,7 +119,7 @@ fn lower(x: u32, y: u32) -> u32
 }
 
 // A cursor on each diff, and the lower of their addresses; END where both are past the last record.
-#[derive(Drop)]
+#[derive(Clone, Copy)]
 struct Walk {
     a: Cursor,
     b: Cursor,

@@ -1,4 +1,6 @@
 // 01's night book, and further rows beside it: each prints what was asked and what was answered. The expected answers in `stdout` are worked out from 01.
+#![tactic(auto)]
+
 mod decisions;
 mod make;
 mod merges;

@@ -1,4 +1,6 @@
 // Little-endian numbers at a place of a slice, and blocks of 512 bytes copied and compared.
+#![tactic(auto)]
+
 ghost use Rattle.std.specs.Prelude.{◌≡◌, ◌++◌, ◌+◌, ◌≤◌, ◌<◌, length, take, drop};
 ghost use Rattle.paper.specs.Number.{field, spelled};
 ghost use Rattle.paper.specs.Image.{same};

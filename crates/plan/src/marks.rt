@@ -77,7 +77,7 @@ fn would_mark(on: Shelf, start: State, target: u64, marks: [bool; PLACES], j: us
 }
 
 // The marks after a sweep, and whether it set one.
-#[derive(Drop)]
+#[derive(Clone, Copy)]
 struct Pass {
     marks: [bool; PLACES],
     changed: bool,

@@ -16,14 +16,14 @@ use record::refusal::Refusal;
 use record::state::{State, StateSaid};
 use volume::decision;
 
-#[derive(Drop)]
+#[derive(Clone, Copy)]
 pub enum PlanSaid {
     Done,
     No(Refusal),
 }
 
 // "The answer has a length and a fixed number of places; those past the length hold 0." It keeps the shelf that it was made for.
-#[derive(Drop)]
+#[derive(Clone, Copy)]
 pub struct Plan {
     pub said: PlanSaid,
     pub length: usize,

@@ -18,14 +18,14 @@ const BLANK: Head = Head {
 };
 
 // "places past the count have no part in any answer"
-#[derive(Drop)]
+#[derive(Clone, Copy)]
 pub struct Shelf {
     pub heads: [Head; PLACES],
     pub count: usize,
 }
 
 // What the check of the entries says.
-#[derive(Drop)]
+#[derive(Clone, Copy)]
 pub enum Entries {
     Sound,
     No(Refusal),

@@ -10,12 +10,12 @@ use crate::refusal::Refusal;
 pub const MAX_ADDRESS: u32 = 65_535;
 
 // A block's record is known by its address; its content stays where it is.
-#[derive(Drop)]
+#[derive(Clone, Copy)]
 pub struct Block {
     pub address: u32,
 }
 
-#[derive(Drop)]
+#[derive(Clone, Copy)]
 pub enum BlockSaid {
     Sound(Block),
     No(Refusal),

@@ -12,7 +12,7 @@ pub const MAX_GID: u64 = 9_223_372_036_854_775_807;
 pub const MAX_BLOCKS: u32 = 65_536;
 
 // Every field that can be wrong.
-#[derive(Drop)]
+#[derive(Clone, Copy)]
 pub struct Head {
     pub kind: u8,
     pub spare: u8,
@@ -22,7 +22,7 @@ pub struct Head {
 }
 
 // The answer of a check of a head.
-#[derive(Drop)]
+#[derive(Clone, Copy)]
 pub enum HeadSaid {
     Sound(Head),
     No(Refusal),

@@ -8,7 +8,7 @@ use crate::refusal::Refusal;
 // 65,536 blocks of 512 bytes
 pub const MAX_BYTES: usize = 33_554_432;
 
-#[derive(Drop)]
+#[derive(Clone, Copy)]
 pub enum ImageSaid {
     Blocks(usize),
     No(Refusal),

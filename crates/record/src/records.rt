@@ -9,7 +9,7 @@ use crate::block::{Block, BlockSaid};
 use crate::head::Head;
 use crate::refusal::Refusal;
 
-#[derive(Drop)]
+#[derive(Clone, Copy)]
 pub enum RecordsSaid {
     Sound,
     No(Refusal),
@@ -61,7 +61,7 @@ pub fn names_outside(d: &[u8], h: Head, m: usize) -> bool
 }
 
 // The place of the record of a block, if one has it.
-#[derive(Drop)]
+#[derive(Clone, Copy)]
 pub enum Found {
     At(usize),
     Nothing,

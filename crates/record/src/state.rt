@@ -8,7 +8,7 @@ use crate::head::MAX_GID;
 use crate::refusal::Refusal;
 
 // "Kind 0 (settled)", "Kind 1 (span)", "Kind 2 (pair)"
-#[derive(Drop)]
+#[derive(Clone, Copy)]
 pub enum Kind {
     Settled,
     Span,
@@ -41,7 +41,7 @@ impl Kind {
 }
 
 // "A state has three gids b, t, e and a kind." A value may break the rules of its kind.
-#[derive(Drop)]
+#[derive(Clone, Copy)]
 pub struct State {
     pub kind: Kind,
     pub b: u64,
@@ -49,14 +49,14 @@ pub struct State {
     pub e: u64,
 }
 
-#[derive(Drop)]
+#[derive(Clone, Copy)]
 pub enum StateSaid {
     Sound(State),
     No(Refusal),
 }
 
 // What a call that writes answers: the length of what it wrote.
-#[derive(Drop)]
+#[derive(Clone, Copy)]
 pub enum Written {
     Bytes(usize),
     No(Refusal),

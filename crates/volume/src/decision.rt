@@ -15,7 +15,7 @@ use record::state::{Kind, State, StateSaid};
 use record::{image, records};
 
 // "While: b stays, t becomes q, e becomes the larger of q and e"
-#[derive(Drop)]
+#[derive(Clone, Copy)]
 pub struct While {
     pub kind: Kind,
     pub b: u64,
@@ -24,7 +24,7 @@ pub struct While {
 }
 
 // "Done: settled at b = t = q, with e the larger of q and e"
-#[derive(Drop)]
+#[derive(Clone, Copy)]
 pub struct Done {
     pub kind: Kind,
     pub b: u64,
@@ -33,7 +33,7 @@ pub struct Done {
 }
 
 // "An accepted apply has two further states."
-#[derive(Drop)]
+#[derive(Clone, Copy)]
 pub enum Decision {
     Accepted(While, Done),
     Refused(Refusal),

@@ -15,7 +15,7 @@ use record::refusal::Refusal;
 use record::{image, records};
 
 // What an apply answers.
-#[derive(Drop)]
+#[derive(Clone, Copy)]
 pub enum Applied {
     Done(Done),
     No(Refusal),
@@ -38,7 +38,7 @@ pub fn apply(d: &[u8], state: &[u8], img: &mut [u8]) -> Applied
 }
 
 // What a run answers: the record after the last one written.
-#[derive(Drop)]
+#[derive(Clone, Copy)]
 pub enum Ran {
     Next(usize),
     No(Refusal),

@@ -8,7 +8,7 @@ use record::refusal::Refusal;
 use record::state::{State, StateSaid};
 
 // What the lag answers: below zero means that the volume is behind.
-#[derive(Drop)]
+#[derive(Clone, Copy)]
 pub enum LagSaid {
     Gids(i64),
     No(Refusal),

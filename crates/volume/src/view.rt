@@ -14,7 +14,7 @@ use record::refusal::Refusal;
 use record::{image, records};
 
 // Where a block stands: in the diff or in the image, from which byte on.
-#[derive(Drop)]
+#[derive(Clone, Copy)]
 pub enum Place {
     InDiff(usize),
     InImage(usize),
