@@ -1,0 +1,8 @@
+-- Each field is read from the bytes where the paper has it.
+use borrow.Author.Rules.{rules}
+use Rattle.paper.specs.Diff.{head_of}
+use Rattle.record.proofs.head.Head.of.Goals as goal
+
+pub returns : goal.returns
+unfolding head_of
+returns c = rw (c.read_u64.ensures, c.read_u64-2.ensures, c.read_u32.ensures)

@@ -1,0 +1,38 @@
+-- `State::read` meets its contract: each check refuses what `bad_record` refuses, and past them all the values that were read are the record's own.
+use mathlib.Core.Path.{sym, ◌∙◌}
+use native.Mathlib.Omega.{arith}
+use borrow.Author.Rules.{rules}
+use borrow.Author.Tests.{eq-eqb, ne_eqb}
+use Rattle.paper.specs.Number.{opens}
+use Rattle.paper.specs.State.{bad_record, read_state}
+use Rattle.record.proofs.StateLaws.{read_no_kind, read_bad, read_sound}
+use Rattle.record.proofs.state.State.read.Goals as goal
+
+pub returns-then-r-ne-SIZE : goal.returns-then-r-ne-SIZE
+unfolding read_state bad_record
+returns-then-r-ne-SIZE c = rw (ne_eqb _ _ c.if-r-ne-SIZE.true)
+
+pub returns-then-r-ne87 : goal.returns-then-r-ne87
+unfolding read_state bad_record opens
+returns-then-r-ne87 c = rw (eq-eqb _ _ c.if-r-ne-SIZE.false, ne_eqb _ _ c.if-r-ne87.true)
+
+pub returns-then-r-ne83 : goal.returns-then-r-ne83
+unfolding read_state bad_record opens
+returns-then-r-ne83 c =
+    rw (eq-eqb _ _ c.if-r-ne-SIZE.false, eq-eqb _ _ c.if-r-ne87.false, ne_eqb _ _ c.if-r-ne83.true)
+
+pub returns-then-r-ne0 : goal.returns-then-r-ne0
+unfolding read_state bad_record opens
+returns-then-r-ne0 c =
+    rw (eq-eqb _ _ c.if-r-ne-SIZE.false, eq-eqb _ _ c.if-r-ne87.false, eq-eqb _ _ c.if-r-ne83.false, ne_eqb _ _ c.if-r-ne0.true)
+
+pub returns-then-byte-gt2 : goal.returns-then-byte-gt2
+returns-then-byte-gt2 c = sym (read_no_kind _ (omega arith) (omega arith) (omega arith) (omega arith) c.if-byte-gt2.true)
+
+pub returns-then-is_bad : goal.returns-then-is_bad
+returns-then-is_bad c =
+    sym (read_bad _ (omega arith) (omega arith) (omega arith) (omega arith) _ c.of-kind.ensures c.read_u64.ensures c.read_u64-2.ensures c.read_u64-3.ensures (sym c.is_bad.ensures ∙ c.if-is_bad.true))
+
+pub returns : goal.returns
+returns c =
+    sym (read_sound _ (omega arith) (omega arith) (omega arith) (omega arith) _ c.of-kind.ensures c.read_u64.ensures c.read_u64-2.ensures c.read_u64-3.ensures (sym c.is_bad.ensures ∙ c.if-is_bad.false))
