@@ -1,0 +1,13 @@
+-- Each turn goes past one record, so what is counted and what is left are the whole count.
+use Prim.Native.Nat.{◌-◌}
+use native.Mathlib.Omega.{arith}
+use Rattle.record.specs.Heads.{head}
+use Rattle.merge.proofs.Walks.{Counting, count_begins, count_goes_on, count_ends}
+use borrow.Author.Rules.{rules}
+use Rattle.merge.proofs.count_records.Given as goal
+
+abbrev pub invariant-loop-w : goal.invariant-loop-w
+invariant-loop-w l = Counting l.first l.second (head l.h0) (head l.h1) l.w l.n
+
+abbrev pub decreases-loop-w : goal.decreases-loop-w
+decreases-loop-w l = 65536 - l.w.low

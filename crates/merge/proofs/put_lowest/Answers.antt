@@ -1,0 +1,30 @@
+-- Where the first diff's address is lower the merge has its record, else the second's.
+use native.Mathlib.Omega.{arith}
+use Rattle.paper.proofs.Check.{sound}
+use Rattle.merge.proofs.Cursors.{on_record, on_few, record_first, record_second}
+use borrow.Author.Rules.{rules}
+use Rattle.merge.proofs.put_lowest.Goals as goal
+
+pub put_record-requires : goal.put_record-requires
+put_record-requires c =
+    let walk = c.requires.1.0 in
+    let few = on_few (sound c.requires.0.second) _ _ walk.second in
+    let here = on_record (sound c.requires.0.first) _ _ walk.first (omega (arith, c.if-w.true)) in
+    (c.requires.0.first, (here.0, c.requires.1.2))
+
+pub put_record-requires-else-w : goal.put_record-requires-else-w
+put_record-requires-else-w c =
+    let here = on_record (sound c.requires.0.second) _ _ c.requires.1.0.second (omega (arith, c.if-w.false)) in
+    (c.requires.0.second, (here.0, c.requires.1.2))
+
+pub returns-then-w : goal.returns-then-w
+returns-then-w c =
+    let higher = c.if-w.true in
+    rw (record_first (sound c.requires.0.first) (sound c.requires.0.second) _ c.requires.1.0 higher)
+    c.put_record.ensures
+
+pub returns-else-w : goal.returns-else-w
+returns-else-w c =
+    let here = c.if-w.false in
+    rw (record_second (sound c.requires.0.first) (sound c.requires.0.second) _ c.requires.1.0 c.requires.1.1 here)
+    c.put_record-else-w.ensures
