@@ -13,44 +13,43 @@ use Rattle.record.specs.Heads.{said_head}
 use Rattle.compare.proofs.Answers.{gids_no, gids_yes, first_bad, second_bad, unequal, gids_bad}
 use Rattle.compare.proofs.compare.Goals as goal
 
--- the first image has passed, then the second
-first-passed : (c : tie.After-enum-told) → bad_image c.before.before.before.before.before.before.args.old.now ≡ false
-first-passed c = image_yes _ (sym c.before.before.check_image.ensures ∙ ap said_blocks c.enum_told.given.1)
-
-second-passed : (c : tie.After-enum-told2) → bad_image c.before.before.before.before.before.before.before.before.before.args.new.now ≡ false
-second-passed c = image_yes _ (sym c.before.before.check-image2.ensures ∙ ap said_blocks c.enum-told2.given.1)
-
-abbrev start : tie.After-check → tie.Start
-start c = c.before.before.before.before.before.before.before.before.before.before.before.before
-
--- what is said of the gids is said of a compared head
-gids : (c : tie.After-check) → said_head c.check.result ≡ check_head (compared_head (start c).args.p (start c).args.q)
-gids c = c.check.ensures ∙ ap check_head c.before.compared.ensures
-
 pub returns-in-No : goal.returns-in-No
 returns-in-No c =
-    let (bad, number) = image_no _ (sym c.check_image-first.ensures ∙ ap said_blocks c.in-No.is) in
-    refused _ (first_bad _ _ _ _ _ bad ∙ ap refuse number)
+    let e =
+        let (bad, number) = image_no _ (sym c.check_image-first.ensures ∙ ap said_blocks c.in-No.is) in
+        refused c.args.out.now (first_bad _ _ _ _ _ bad ∙ ap refuse number)
+    in
+    record { result_value = e.0; out_after = e.1 }
 
 pub returns-in-No-second : goal.returns-in-No-second
 returns-in-No-second c =
-    let (bad, number) = image_no _ (sym c.check_image-second.ensures ∙ ap said_blocks c.in-No-second.is) in
-    refused _ (second_bad _ _ _ _ _ bad ∙ ap refuse number)
+    let e =
+        let (bad, number) = image_no _ (sym c.check_image-second.ensures ∙ ap said_blocks c.in-No-second.is) in
+        refused c.args.out.now (second_bad _ _ _ _ _ bad ∙ ap refuse number)
+    in
+    record { result_value = e.0; out_after = e.1 }
 
 pub returns-then-old-new : goal.returns-then-old-new
-returns-then-old-new c = refused _ (unequal _ _ _ _ _ λ e. omega (arith, c.if-old-new.true))
+returns-then-old-new c =
+    let e =
+        refused c.args.out.now (unequal c.args.old.now c.args.new.now _ _ _ λ e. omega (arith, c.if-old-new.true))
+    in
+    record { result_value = e.0; out_after = e.1 }
 
 pub returns-in-No-gids : goal.returns-in-No-gids
 returns-in-No-gids c =
-    let (bad, number) = gids_no _ _ (sym (gids c) ∙ ap said_head c.in-No-gids.is) in
-    refused _ (gids_bad _ _ _ _ _ (first-passed c) (second-passed c) c.if-old-new.false bad ∙ ap refuse number)
+    let e =
+        let (bad, number) = gids_no _ _ (sym (c.check-gids.ensures ∙ ap check_head c.compared.ensures) ∙ ap said_head c.in-No-gids.is) in
+        refused c.args.out.now (gids_bad _ _ _ _ _ (image_yes _ (sym c.check_image-first.ensures ∙ ap said_blocks c.in_default.is)) (image_yes _ (sym c.check_image-second.ensures ∙ ap said_blocks c.in_default-second.is)) c.if-old-new.false bad ∙ ap refuse number)
+    in
+    record { result_value = e.0; out_after = e.1 }
 
 pub compare_sound-requires : goal.compare_sound-requires
 compare_sound-requires c = record {
-  old_image = first-passed c;
-  new_image = second-passed c;
+  old_image = image_yes _ (sym c.check_image-first.ensures ∙ ap said_blocks c.in_default.is);
+  new_image = image_yes _ (sym c.check_image-second.ensures ∙ ap said_blocks c.in_default-second.is);
   long = omega (arith, c.if-old-new.false);
-  good = gids_yes _ _ (sym (gids c) ∙ ap said_head c.in_default-gids.is);
+  good = gids_yes _ _ (sym (c.check-gids.ensures ∙ ap check_head c.compared.ensures) ∙ ap said_head c.in_default-gids.is);
 }
 
 pub returns : goal.returns
