@@ -19,8 +19,8 @@ use record::state::Written;
 
 // "A comparison checks 8, then 3 for its gids, then 17." The compared diff goes to `out`, and its length is answered.
 pub fn compare(old: &[u8], new: &[u8], p: u64, q: u64, out: &mut [u8]) -> Written
-    ensures result_value { said_length result ≡ comes_back (compare old.now new.now p q (length out.old)) }
-    ensures out_after { out.new ≡ over out.old (compare old.now new.now p q (length out.old)) }
+    ensures answered { said_length result ≡ comes_back (compare old.now new.now p q (length out.old)) }
+    ensures leaves { out.new ≡ over out.old (compare old.now new.now p q (length out.old)) }
 {
     let first = image::check_image(old);
     if let ImageSaid::No(r) = first {
@@ -56,8 +56,8 @@ fn compared(p: u64, q: u64, n: u32) -> Head
 // The comparison of two whole images of one length, with good gids. Nothing is written before it is known to have room.
 fn compare_sound(old: &[u8], new: &[u8], p: u64, q: u64, out: &mut [u8]) -> Written
     requires { Comparable old.now new.now p q }
-    ensures result_value { said_length result ≡ comes_back (compare old.now new.now p q (length out.old)) }
-    ensures out_after { out.new ≡ over out.old (compare old.now new.now p q (length out.old)) }
+    ensures answered { said_length result ≡ comes_back (compare old.now new.now p q (length out.old)) }
+    ensures leaves { out.new ≡ over out.old (compare old.now new.now p q (length out.old)) }
 {
     let blocks = new.len() / Block::BYTES;
     let mut marks = [false; MAX_BLOCKS as usize];
@@ -94,8 +94,8 @@ fn mark(old: &[u8], new: &[u8], blocks: usize, marks: &mut [bool]) -> usize
 
 // Writes the record of each marked block, with its content in `new`, one after another behind the head.
 fn write_marked(new: &[u8], blocks: usize, marks: &[bool], out: &mut [u8])
-    requires len { (length new.now ≡ 512 * blocks) × (blocks ≤ 65536) × (blocks ≤ length marks.now) }
-    requires blocks_in_bounds { 24 + 518 * count_of (marked marks.now new.now) 0 blocks ≤ length out.old }
+    requires whole { (length new.now ≡ 512 * blocks) × (blocks ≤ 65536) × (blocks ≤ length marks.now) }
+    requires room { 24 + 518 * count_of (marked marks.now new.now) 0 blocks ≤ length out.old }
     ensures { out.new ≡ put 24 (records_of (marked marks.now new.now) 0 blocks) out.old }
 {
     let mut at = Head::SIZE;

@@ -19,8 +19,8 @@ use record::state::Written;
 
 // "A merge checks first diff, second diff, 15, 16, 17." The result goes to `out`, and its length is answered.
 pub fn merge(first: &[u8], second: &[u8], out: &mut [u8]) -> Written
-    ensures result_value { said_length result ≡ comes_back (merge first.now second.now (length out.old)) }
-    ensures out_after { out.new ≡ over out.old (merge first.now second.now (length out.old)) }
+    ensures answered { said_length result ≡ comes_back (merge first.now second.now (length out.old)) }
+    ensures leaves { out.new ≡ over out.old (merge first.now second.now (length out.old)) }
 {
     let said = diff::check(first);
     match said {
@@ -99,8 +99,8 @@ fn cursor_at(d: &[u8], h: Head, i: usize) -> Cursor
 
 // The cursor past address `low`: the next record, if c stands at that address.
 fn past(d: &[u8], h: Head, c: Cursor, low: u32) -> Cursor
-    requires d_value { check d.now ≡ answer (head h) }
-    requires on { On d.now h.n low c × (low < 65536) }
+    requires passed { check d.now ≡ answer (head h) }
+    requires standing { On d.now h.n low c × (low < 65536) }
     ensures { On d.now h.n (low + 1) result }
 {
     if c.address > low {
@@ -171,8 +171,8 @@ fn count_records(first: &[u8], second: &[u8], h0: Head, h1: Head) -> usize
 
 // Puts record i of d, whole, where `out` opens.
 fn put_record(d: &[u8], h: Head, i: usize, out: &mut [u8])
-    requires d_value { check d.now ≡ answer (head h) }
-    requires i_lt_n { (i < h.n) × (518 ≤ length out.old) }
+    requires passed { check d.now ≡ answer (head h) }
+    requires room { (i < h.n) × (518 ≤ length out.old) }
     ensures { out.new ≡ record_bytes (address_of (rest d.now i)) (content_of (rest d.now i)) ++ drop 518 out.old }
 {
     let at = Head::SIZE + Block::SIZE * i;
@@ -195,7 +195,7 @@ fn put_lowest(first: &[u8], second: &[u8], h0: Head, h1: Head, w: Walk, out: &mu
 // Puts the records of the merge after the head.
 fn write_records(first: &[u8], second: &[u8], h0: Head, h1: Head, out: &mut [u8])
     requires passed { Passed first.now second.now (head h0) (head h1) }
-    requires second_in_bounds { 24 + 518 * count_of (both first.now second.now) 0 65536 ≤ length out.old }
+    requires room { 24 + 518 * count_of (both first.now second.now) 0 65536 ≤ length out.old }
     ensures { out.new ≡ put 24 (records_of (both first.now second.now) 0 65536) out.old }
 {
     let mut w = begin(first, second, h0, h1);

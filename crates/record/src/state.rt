@@ -177,8 +177,8 @@ impl State {
 
     // "A state is also written out as its record (BadState, then NoRoom)."
     pub fn write(self, out: &mut [u8]) -> Written
-        ensures result_value { said_length result ≡ comes_back (write_state (state self) (length out.old)) }
-        ensures out_after { out.new ≡ over out.old (write_state (state self) (length out.old)) }
+        ensures answered { said_length result ≡ comes_back (write_state (state self) (length out.old)) }
+        ensures leaves { out.new ≡ over out.old (write_state (state self) (length out.old)) }
     {
         if self.is_bad() {
             return Written::No(Refusal::BadState);

@@ -23,8 +23,8 @@ pub enum Applied {
 
 // "Doing writes every named block and gives Done." Nothing is written before every check has passed.
 pub fn apply(d: &[u8], state: &[u8], img: &mut [u8]) -> Applied
-    ensures result_value { said_applied result ≡ comes_back (apply d.now state.now img.old) }
-    ensures img_after { img.new ≡ over img.old (apply d.now state.now img.old) }
+    ensures answered { said_applied result ≡ comes_back (apply d.now state.now img.old) }
+    ensures leaves { img.new ≡ over img.old (apply d.now state.now img.old) }
 {
     let said = decision::decide(d, state, img);
     match said {
@@ -57,8 +57,8 @@ fn run_end(n: usize, i: usize, k: usize) -> usize
 
 // "A run checks diff, image, Outside, BadStart", "writes records i up to the smaller of i + k and n into the image and answers that smaller number"
 pub fn run(d: &[u8], img: &mut [u8], i: usize, k: usize) -> Ran
-    ensures result_value { said_run result ≡ comes_back (run d.now img.old i k) }
-    ensures img_after { img.new ≡ over img.old (run d.now img.old i k) }
+    ensures answered { said_run result ≡ comes_back (run d.now img.old i k) }
+    ensures leaves { img.new ≡ over img.old (run d.now img.old i k) }
 {
     let said = diff::check(d);
     match said {
@@ -70,8 +70,8 @@ pub fn run(d: &[u8], img: &mut [u8], i: usize, k: usize) -> Ran
 // The checks that are left where the diff has passed with head h, and the run.
 fn run_image(d: &[u8], h: Head, img: &mut [u8], i: usize, k: usize) -> Ran
     requires { check d.now ≡ answer (head h) }
-    ensures result_value { said_run result ≡ comes_back (run d.now img.old i k) }
-    ensures img_after { img.new ≡ over img.old (run d.now img.old i k) }
+    ensures answered { said_run result ≡ comes_back (run d.now img.old i k) }
+    ensures leaves { img.new ≡ over img.old (run d.now img.old i k) }
 {
     let said = image::check_image(img);
     match said {

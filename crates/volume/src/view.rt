@@ -59,9 +59,9 @@ fn find_in(d: &[u8], h: Head, img: &[u8], a: usize) -> Place
 // "it is a part of the lent diff where the diff names a, otherwise a part of the lent image, and never a copy".
 // The number goes to `said`; a refusal gives an empty view.
 pub fn read_through<'a>(d: &'a [u8], img: &'a [u8], a: usize, said: &mut u32) -> &'a [u8]
-    ensures said_after { said.new ≡ number (read_through d.now img.now a) }
-    ensures result_value { result.now ≡ seen d.now img.now (read_through d.now img.now a) }
-    ensures ref_ptr_value { result.ref_ptr ≡ place_of d.entry.ref_ptr img.entry.ref_ptr (read_through d.now img.now a) }
+    ensures told { said.new ≡ number (read_through d.now img.now a) }
+    ensures shown { result.now ≡ seen d.now img.now (read_through d.now img.now a) }
+    ensures placed { result.ref_ptr ≡ place_of d.entry.ref_ptr img.entry.ref_ptr (read_through d.now img.now a) }
 {
     let p = find_block(d, img, a);
     match p {

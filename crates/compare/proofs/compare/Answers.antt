@@ -19,7 +19,7 @@ returns-in-No c =
         let (bad, number) = image_no _ (sym c.check_image-first.ensures ∙ ap said_blocks c.in-No.is) in
         refused c.args.out.now (first_bad _ _ _ _ _ bad ∙ ap refuse number)
     in
-    record { result_value = e.0; out_after = e.1 }
+    record { answered = e.0; leaves = e.1 }
 
 pub returns-in-No-second : goal.returns-in-No-second
 returns-in-No-second c =
@@ -27,14 +27,14 @@ returns-in-No-second c =
         let (bad, number) = image_no _ (sym c.check_image-second.ensures ∙ ap said_blocks c.in-No-second.is) in
         refused c.args.out.now (second_bad _ _ _ _ _ bad ∙ ap refuse number)
     in
-    record { result_value = e.0; out_after = e.1 }
+    record { answered = e.0; leaves = e.1 }
 
 pub returns-then-old-new : goal.returns-then-old-new
 returns-then-old-new c =
     let e =
         refused c.args.out.now (unequal c.args.old.now c.args.new.now _ _ _ λ e. omega (arith, c.if-old-new.true))
     in
-    record { result_value = e.0; out_after = e.1 }
+    record { answered = e.0; leaves = e.1 }
 
 pub returns-in-No-gids : goal.returns-in-No-gids
 returns-in-No-gids c =
@@ -42,7 +42,7 @@ returns-in-No-gids c =
         let (bad, number) = gids_no _ _ (sym (c.check-gids.ensures ∙ ap check_head c.compared.ensures) ∙ ap said_head c.in-No-gids.is) in
         refused c.args.out.now (gids_bad _ _ _ _ _ (image_yes _ (sym c.check_image-first.ensures ∙ ap said_blocks c.in_default.is)) (image_yes _ (sym c.check_image-second.ensures ∙ ap said_blocks c.in_default-second.is)) c.if-old-new.false bad ∙ ap refuse number)
     in
-    record { result_value = e.0; out_after = e.1 }
+    record { answered = e.0; leaves = e.1 }
 
 pub compare_sound-requires : goal.compare_sound-requires
 compare_sound-requires c = record {

@@ -22,7 +22,7 @@ returns-then-out-size c =
     let e =
         refused c.args.out.now (no_room _ _ _ _ _ (sized c.requires) c.mark-count.ensures _ _ c.requires _ c.if-out-size.true)
     in
-    record { result_value = e.0; out_after = e.1 }
+    record { answered = e.0; leaves = e.1 }
 
 pub overflow_cast-count : goal.overflow_cast-count
 overflow_cast-count c = omega (arith, few_marked _ _ _ _ _ (sized c.requires) c.mark-count.ensures)
@@ -31,8 +31,8 @@ pub write_marked-requires : goal.write_marked-requires
 write_marked-requires c =
     let s = sized c.requires in
     record {
-      len = (s.second, s.few, omega (arith, marks_room _ s.few, c.mark-count.auto.marks));
-      blocks_in_bounds = omega (arith, marked_count _ _ _ _ _ s c.mark-count.ensures, c.if-out-size.false, c.write.auto.out);
+      whole = (s.second, s.few, omega (arith, marks_room _ s.few, c.mark-count.auto.marks));
+      room = omega (arith, marked_count _ _ _ _ _ s c.mark-count.ensures, c.if-out-size.false, c.write.auto.out);
     }
 
 pub returns : goal.returns
@@ -42,4 +42,4 @@ returns c =
         let head = c.write.ensures ∙ ap (λ (h : Head). put 0 (head_bytes h) out) c.compared.ensures in
         writes _ _ _ _ _ (sized c.requires) c.mark-count.ensures _ _ c.requires out c.write.new.out c.write_marked.new.out c.if-out-size.false head c.write_marked.ensures
     in
-    record { result_value = e.0; out_after = e.1 }
+    record { answered = e.0; leaves = e.1 }

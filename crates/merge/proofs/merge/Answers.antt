@@ -9,7 +9,7 @@ pub merge_second-requires : goal.merge_second-requires
 merge_second-requires c = sym c.check-said.ensures ∙ ap said_head c.in-Sound.is
 
 pub returns-in-No : goal.returns-in-No
-returns-in-No c = let no = first_no _ _ _ _ (sym c.check-said.ensures ∙ ap said_head c.in-No.is) in (no.answered, no.leaves)
+returns-in-No c = let no = first_no _ _ _ _ (sym c.check-said.ensures ∙ ap said_head c.in-No.is) in record { answered = no.answered; leaves = no.leaves }
 
 pub returns-in-Sound : goal.returns-in-Sound
-returns-in-Sound c = let rest = c.merge_second.ensures in (rest.answered, rest.leaves)
+returns-in-Sound c = let rest = c.merge_second.ensures in record { answered = rest.answered; leaves = rest.leaves }

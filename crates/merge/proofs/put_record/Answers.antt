@@ -10,19 +10,19 @@ use borrow.Author.Rules.{rules}
 use Rattle.merge.proofs.put_record.Goals as goal
 
 pub slice_bounds-copy_record-count : goal.slice_bounds-copy_record-count
-slice_bounds-copy_record-count c = let s = sound c.requires.0 in omega (arith, s.long)
+slice_bounds-copy_record-count c = let s = sound c.requires.passed in omega (arith, s.long)
 
 pub slice_bounds-copy_record-start : goal.slice_bounds-copy_record-start
-slice_bounds-copy_record-start c = let s = sound c.requires.0 in omega (arith, s.long)
+slice_bounds-copy_record-start c = let s = sound c.requires.passed in omega (arith, s.long)
 
 pub copy_record-requires : goal.copy_record-requires
 copy_record-requires c =
-    let s = sound c.requires.0 in
+    let s = sound c.requires.passed in
     simp (length-take, length-drop) (omega (arith, s.long))
 
 pub returns : goal.returns
 returns c =
     let d = c.args.d.now in
     let i = c.args.i in
-    let whole = record_whole (sound c.requires.0) (λ k. omega (arith, c.shared_slice_known-1.given k)) i c.requires.1.0 in
-    rw (part_rest d i (24 + 518 * i) refl, whole) c c.copy_record.ensures
+    let whole = record_whole (sound c.requires.passed) (λ k. omega (arith, c.shared_slice_known-1.given k)) i c.requires.room.0 in
+    rw (part_rest d i (24 + 518 * i) refl, whole) at c.copy_record.ensures

@@ -9,11 +9,11 @@ use Rattle.record.proofs.state.State.write.Goals as goal
 
 pub returns-then-is_bad : goal.returns-then-is_bad
 unfolding comes_back over
-returns-then-is_bad c = rw (write_bad _ _ (sym c.is_bad.ensures ∙ c.if-is_bad.true)) (record { result_value = refl; out_after = refl })
+returns-then-is_bad c = rw (write_bad _ _ (sym c.is_bad.ensures ∙ c.if-is_bad.true)) (record { answered = refl; leaves = refl })
 
 pub returns-then-out-lt-SIZE : goal.returns-then-out-lt-SIZE
 unfolding comes_back over
-returns-then-out-lt-SIZE c = rw (write_short _ _ (sym c.is_bad.ensures ∙ c.if-is_bad.false) c.if-out-lt-SIZE.true) (record { result_value = refl; out_after = refl })
+returns-then-out-lt-SIZE c = rw (write_short _ _ (sym c.is_bad.ensures ∙ c.if-is_bad.false) c.if-out-lt-SIZE.true) (record { answered = refl; leaves = refl })
 
 pub bounds-out-1 : goal.bounds-out-1
 bounds-out-1 c = simp length-set (omega arith)
@@ -37,4 +37,4 @@ write_u64-requires-3 c =
 pub returns : goal.returns
 returns c =
     let good = sym c.is_bad.ensures ∙ c.if-is_bad.false in
-    record { result_value = sym (write_answers _ _ good c.if-out-lt-SIZE.false); out_after = write_over _ c.number.result _ c.write_u64.new.s c.write_u64-2.new.s c.write_u64-3.new.s good c.if-out-lt-SIZE.false c.number.ensures c.write_u64.ensures c.write_u64-2.ensures c.write_u64-3.ensures }
+    record { answered = sym (write_answers _ _ good c.if-out-lt-SIZE.false); leaves = write_over _ c.number.result _ c.write_u64.new.s c.write_u64-2.new.s c.write_u64-3.new.s good c.if-out-lt-SIZE.false c.number.ensures c.write_u64.ensures c.write_u64-2.ensures c.write_u64-3.ensures }
