@@ -18,12 +18,12 @@ returns-then-h-s-3 c =
 pub returns-then-not-is_exact : goal.returns-then-not-is_exact
 returns-then-not-is_exact c =
     exact_no _ _ c.if-h-s.false c.if-h-s-2.false c.if-h-s-3.false (eq-eqb _ 1 c.if-h-eq1.true)
-    (sym c.is_exact.ensures ∙ not-true _ c.if-not-is_exact.true)
+    (sym c.is_exact.ensures ∙ c.if-not-is_exact.true)
 
 pub returns-then-h-eq1 : goal.returns-then-h-eq1
 returns-then-h-eq1 c =
     all_passed _ _ c.if-h-s.false c.if-h-s-2.false c.if-h-s-3.false
-    (rw (eq-eqb _ 1 c.if-h-eq1.true, ← c.is_exact.ensures) c.if-not-is_exact.false)
+    (rw (eq-eqb _ 1 c.if-h-eq1.true, ← c.is_exact.ensures, c.if-not-is_exact.false))
     c.while_state.ensures c.done_state.ensures
 
 pub returns : goal.returns

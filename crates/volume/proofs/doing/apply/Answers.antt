@@ -15,9 +15,15 @@ write_records-requires c =
 
 pub returns-in-Refused : goal.returns-in-Refused
 returns-in-Refused c =
-    apply_no _ _ _ _ (sym c.decide-said.ensures ∙ ap said_decision c.in-Refused.is)
+    let e =
+        apply_no _ _ _ _ (sym c.decide-said.ensures ∙ ap said_decision c.in-Refused.is)
+    in
+    record { answered = e.0; leaves = e.1 }
 
 pub returns-in-Accepted : goal.returns-in-Accepted
 returns-in-Accepted c =
-    applied _ _ _ _ (sym c.decide-said.ensures ∙ ap said_decision c.in-Accepted.is) _ _
-    c.of-h.ensures c.write_records.ensures
+    let e =
+        applied _ _ _ _ (sym c.decide-said.ensures ∙ ap said_decision c.in-Accepted.is) _ _
+        c.of-h.ensures c.write_records.ensures
+    in
+    record { answered = e.0; leaves = e.1 }

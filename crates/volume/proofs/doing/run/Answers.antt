@@ -11,4 +11,7 @@ run_image-requires c =
 
 pub returns-in-No : goal.returns-in-No
 returns-in-No c =
-    diff_no _ _ _ _ _ (sym c.check-said.ensures ∙ ap said_head c.in-No.is)
+    let e =
+        diff_no _ _ _ _ _ (sym c.check-said.ensures ∙ ap said_head c.in-No.is)
+    in
+    record { answered = e.0; leaves = e.1 }

@@ -7,25 +7,37 @@ use Rattle.volume.proofs.doing.run_image.Goals as goal
 
 pub returns-then-names_outside : goal.returns-then-names_outside
 returns-then-names_outside c =
-    outside_no _ _ _ _ _ c.before.before.before.before.before.before.before.before.before.requires _ (sym c.check_image-said.ensures ∙ ap said_blocks c.in-Blocks.is)
-    (sym c.names_outside.ensures ∙ c.if-names_outside.true)
+    let e =
+        outside_no _ _ _ _ _ c.requires _ (sym c.check_image-said.ensures ∙ ap said_blocks c.in-Blocks.is)
+        (sym c.names_outside.ensures ∙ c.if-names_outside.true)
+    in
+    record { answered = e.0; leaves = e.1 }
 
 pub returns-then-i-n : goal.returns-then-i-n
 returns-then-i-n c =
-    start_no _ _ _ _ _ c.before.before.before.before.before.before.before.before.before.before.before.requires _ (sym c.check_image-said.ensures ∙ ap said_blocks c.in-Blocks.is)
-    (sym c.names_outside.ensures ∙ c.if-names_outside.false) c.if-i-n.true
+    let e =
+        start_no _ _ _ _ _ c.requires _ (sym c.check_image-said.ensures ∙ ap said_blocks c.in-Blocks.is)
+        (sym c.names_outside.ensures ∙ c.if-names_outside.false) c.if-i-n.true
+    in
+    record { answered = e.0; leaves = e.1 }
 
 pub write_records-requires : goal.write_records-requires
 write_records-requires c =
-    run_may _ _ _ _ _ c.before.before.before.before.before.before.before.before.before.before.before.before.before.requires _ (sym c.check_image-said.ensures ∙ ap said_blocks c.in-Blocks.is)
+    run_may _ _ _ _ _ c.requires _ (sym c.check_image-said.ensures ∙ ap said_blocks c.in-Blocks.is)
     (sym c.names_outside.ensures ∙ c.if-names_outside.false) c.if-i-n.false _ c.run_end-end.ensures
 
 pub returns-in-No : goal.returns-in-No
 returns-in-No c =
-    image_no _ _ _ _ _ c.before.before.before.before.before.before.before.requires _ (sym c.check_image-said.ensures ∙ ap said_blocks c.in-No.is)
+    let e =
+        image_no _ _ _ _ _ c.requires _ (sym c.check_image-said.ensures ∙ ap said_blocks c.in-No.is)
+    in
+    record { answered = e.0; leaves = e.1 }
 
 pub returns-else-i-n : goal.returns-else-i-n
 returns-else-i-n c =
-    ran _ _ _ _ _ c.before.before.before.before.before.before.before.before.before.before.before.before.before.before.before.before.requires _ (sym c.check_image-said.ensures ∙ ap said_blocks c.in-Blocks.is)
-    (sym c.names_outside.ensures ∙ c.if-names_outside.false) c.if-i-n.false _ c.run_end-end.ensures _
-    c.write_records.ensures
+    let e =
+        ran _ _ _ _ _ c.requires _ (sym c.check_image-said.ensures ∙ ap said_blocks c.in-Blocks.is)
+        (sym c.names_outside.ensures ∙ c.if-names_outside.false) c.if-i-n.false _ c.run_end-end.ensures _
+        c.write_records.ensures
+    in
+    record { answered = e.0; leaves = e.1 }

@@ -27,12 +27,23 @@ slice_bounds-result-end-in-InImage c =
     omega arith
 
 pub returns-in-InDiff : goal.returns-in-InDiff
-returns-in-InDiff c = hands_diff _ _ _ _ _ _ (sym c.find_block-p.ensures ∙ ap said_place c.in-InDiff.is)
+returns-in-InDiff c =
+    let e =
+        hands_diff _ _ _ c.args.d.ref_ptr c.args.img.ref_ptr _ (sym c.find_block-p.ensures ∙ ap said_place c.in-InDiff.is)
+    in
+    record { told = e.0; shown = e.1.0; placed = e.1.1 }
 
 pub returns-in-InImage : goal.returns-in-InImage
-returns-in-InImage c = hands_image _ _ _ _ _ _ (sym c.find_block-p.ensures ∙ ap said_place c.in-InImage.is)
+returns-in-InImage c =
+    let e =
+        hands_image _ _ _ c.args.d.ref_ptr c.args.img.ref_ptr _ (sym c.find_block-p.ensures ∙ ap said_place c.in-InImage.is)
+    in
+    record { told = e.0; shown = e.1.0; placed = e.1.1 }
 
 pub returns-in-No : goal.returns-in-No
 returns-in-No c =
-    hands_nothing _ _ _ _ _ _ _ c.number.ensures
-    (sym c.find_block-p.ensures ∙ ap said_place c.in-No.is)
+    let e =
+        hands_nothing _ _ _ c.args.d.ref_ptr c.args.img.ref_ptr _ _ c.number.ensures
+        (sym c.find_block-p.ensures ∙ ap said_place c.in-No.is)
+    in
+    record { told = e.0; shown = e.1.0; placed = e.1.1 }
