@@ -1,0 +1,22 @@
+-- `lead` meets its contract: no place passed by is accepted and marked, so the first that is found is the lowest.
+use Prim.Native.Nat.{◌-◌}
+use borrow.Author.Rules.{rules}
+use Rattle.record.specs.States.{state}
+use Rattle.plan.proofs.Leads.{Leading, lead_begins, lead_here, lead_on, lead_ends}
+use Rattle.plan.proofs.marks.lead.Goals as goal
+
+pub loop-i-init : goal.loop-i-init
+loop-i-init c = lead_begins _ _ _
+
+pub returns-then-leads : goal.returns-then-leads
+returns-then-leads c =
+    let at = c.loop-i in
+    lead_here _ _ _ at.i at.invariant _ c.loop-i-test.true c.leads.ensures c.if-leads.true
+
+pub loop-i-preserved : goal.loop-i-preserved
+loop-i-preserved c =
+    let at = c.loop-i in
+    lead_on _ _ _ at.i at.invariant _ c.loop-i-test.true c.leads.ensures c.if-leads.false
+
+pub returns : goal.returns
+returns c = lead_ends _ _ _ _ c.loop-i.invariant c.loop-i-test.false
