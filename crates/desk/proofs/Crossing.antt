@@ -45,8 +45,10 @@ entries_cross (h ∷ hs) before v i e (more g few rest) =
     rw (append_assoc (head_bytes h) (laid hs) v) (sym (append_assoc before (head_bytes h) (laid hs ++ v))) in
     let here : read_head (drop (head_size * i) (before ++ (head_bytes h ++ laid hs ++ v))) ≡ answer h =
     rw (drop_at before (head_bytes h ++ laid hs ++ v) (head_size * i) e, append_assoc (head_bytes h) (laid hs) v) (head_crosses h (laid hs ++ v) g few) in
-    let on = entries_cross hs (before ++ head_bytes h) v (suc i) (simp (length-append, head_length) (omega arith)) rest in
-    rw (here, whole, on) refl
+    let on : read_entries (before ++ (head_bytes h ++ laid hs ++ v)) (suc i) (length hs) ≡ answer hs =
+    ap (λ (s : List ℕ). read_entries s (suc i) (length hs)) whole
+    ∙ entries_cross hs (before ++ head_bytes h) v (suc i) (simp (length-append, head_length) (omega arith)) rest in
+    rw (here, on) refl
 
 pub shelf_crosses : (hs : List Head) (v : List ℕ) → length hs ≤ max_places → SoundHeads hs
     → read_shelf (laid hs ++ v) (length hs) ≡ answer (record { heads = hs ++ replicate (max_places - length hs) blank; count = length hs })

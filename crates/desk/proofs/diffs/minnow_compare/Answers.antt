@@ -1,0 +1,10 @@
+-- `minnow_compare` meets its contract: what the comparison said and left is its row, case by case.
+use borrow.Author.Rules.{rules}
+use Rattle.desk.proofs.Rows.{length_no, length_yes}
+use Rattle.desk.proofs.diffs.minnow_compare.Goals as goal
+
+pub returns-in-No : goal.returns-in-No
+returns-in-No c = search length_no
+
+pub returns-in-Bytes : goal.returns-in-Bytes
+returns-in-Bytes c = search length_yes
