@@ -3,14 +3,14 @@
 use Prim.Native.Nat.{ℕ, ◌≤◌, ◌<◌}
 use mathlib.Core.Path.{◌≡◌, refl, sym, ap, ◌∙◌}
 use mathlib.Core.List.{List}
-use mathlib.Core.Bool.{true, false}
+use mathlib.Core.Bool.{false}
 use lib.ListN.{length}
 use borrow.Author.Tests.{lt-ltb, le-ltb}
 use Rattle.paper.specs.Limits.{state_size}
 use Rattle.paper.specs.Answer.{Said, answer, refuse, guard, ◌then◌, Wrote, comes_back, onto, over, NoRoom}
 use Rattle.paper.specs.State as Paper
 use Rattle.paper.specs.State.{state_bytes, write_state}
-use Rattle.paper.specs.Volume.{Further, decide, apply}
+use Rattle.paper.specs.Volume.{decide, apply}
 use Rattle.paper.proofs.Answers.{answer_injective, refuse_not_answer}
 use Rattle.paper.proofs.States.{GoodState, good_back}
 use Rattle.paper.proofs.Applies.{further_good, does}

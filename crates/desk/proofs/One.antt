@@ -1,11 +1,11 @@
 -- One outcome: each promise but the plan's is an equation, and its other side is worked out from what was there at entry, so two outcomes that meet it are equal.
 -- A plan says one thing of a shelf (`plan_one_outcome`), and bytes are one shelf, so its row is one too.
 use Prim.Native.Nat.{ℕ}
-use mathlib.Core.Path.{◌≡◌, sym, ap, ◌∙◌}
+use mathlib.Core.Path.{◌≡◌, sym, ◌∙◌}
 use mathlib.Core.List.{List}
 use lib.IntN.{ℤ}
 use lib.ListN.{length}
-use Rattle.paper.specs.Answer.{Said, answer, refuse}
+use Rattle.paper.specs.Answer.{Said}
 use Rattle.paper.specs.Diff.{check}
 use Rattle.paper.specs.State.{State, read_state, write_state}
 use Rattle.paper.specs.Volume.{run, read_through, lag}
@@ -14,7 +14,7 @@ use Rattle.paper.specs.Compare.{compare}
 use Rattle.paper.proofs.Answers.{answer_injective, refuse_not_answer}
 use Rattle.paper.proofs.Plans.{plan_one_outcome}
 use Rattle.desk.specs.Rows.{head_row, state_row, wrote_row, decide_records, further_row, apply_record, applied_row, view_row, lag_row}
-use Rattle.desk.specs.Shelves.{Says, unread, planned, plan_row, Restores}
+use Rattle.desk.specs.Shelves.{Says, unread, planned, Restores}
 
 one_row : {A : Type 0} {x : A} (o o' : A) → o ≡ x → o' ≡ x → o ≡ o'
 one_row o o' e f = e ∙ sym f

@@ -13,7 +13,7 @@ use Rattle.plan.specs.declared.shelf.Shelf.{Shelf}
 use Rattle.plan.specs.declared.shelf.Entries.TheVariants as entries
 use Rattle.plan.specs.declared.planning.Plan.{Plan}
 use Rattle.plan.specs.declared.planning.PlanSaid.TheVariants.{Done, No}
-use Rattle.plan.specs.Shelves.{shelf, said_entries}
+use Rattle.plan.specs.Shelves.{shelf}
 use Rattle.plan.specs.Plans.{said_plan, plan, but_for_list, Answers}
 use Rattle.plan.proofs.One.{said_refuses}
 use Rattle.desk.specs.declared.restores.Shelved.{Shelved}

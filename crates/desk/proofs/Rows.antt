@@ -19,8 +19,8 @@ use Rattle.record.specs.declared.state.StateSaid.TheVariants as state-said
 use Rattle.record.specs.declared.state.Written.{Written}
 use Rattle.record.specs.declared.state.Written.TheVariants as written
 use Rattle.record.specs.Refusals.{number_of}
-use Rattle.record.specs.Heads.{head, said_head}
-use Rattle.record.specs.States.{kind_number, state, said_state, said_length}
+use Rattle.record.specs.Heads.{said_head}
+use Rattle.record.specs.States.{kind_number, said_state, said_length}
 use Rattle.record.proofs.StateLaws.{no_kind, write_bad}
 use Rattle.volume.specs.declared.doing.Ran.{Ran}
 use Rattle.volume.specs.declared.doing.Ran.TheVariants as ran

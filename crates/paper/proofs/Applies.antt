@@ -3,7 +3,7 @@ use Prim.Native.Nat.{ℕ}
 use mathlib.Core.Path.{◌≡◌, sym, ap}
 use mathlib.Core.List.{List}
 use mathlib.Core.Bool.{false}
-use Rattle.paper.specs.Answer.{answer, ◌then◌, Wrote, Outside}
+use Rattle.paper.specs.Answer.{answer, Wrote, Outside}
 use Rattle.paper.specs.Image.{check_image, overlay}
 use Rattle.paper.specs.Diff.{Head, check, named, names_outside}
 use Rattle.paper.specs.State.{State, read_state}

@@ -1,5 +1,5 @@
 -- What holds in a planner's two loops. A sweep keeps its marks sound, and either marks another place or shows that none is left to mark; a walk has come by the first places of the first list, whatever the rest of it is.
-use Prim.Native.Nat.{ℕ, ◌+◌, ◌-◌, ◌≤◌, ◌<◌}
+use Prim.Native.Nat.{ℕ, ◌-◌, ◌≤◌, ◌<◌}
 use mathlib.Core.Path.{◌≡◌, refl, sym, ◌∙◌}
 use mathlib.Core.Option.{none, some}
 use mathlib.Core.List.{List, [], ◌∷◌, ◌++◌, append-nil}

@@ -4,13 +4,13 @@ use Prim.Native.Nat.{ℕ, ◌+◌, ◌-◌, ◌/◌, ◌%◌, ◌≤◌, ◌<◌
 use mathlib.Core.Path.{◌≡◌, refl, sym, ap, ◌∙◌}
 use mathlib.Core.Option.{Option, none, some}
 use mathlib.Core.List.{List, ◌∷◌}
-use mathlib.Core.Bool.{true, false, ◌&&◌, ◌||◌, false≢true}
+use mathlib.Core.Bool.{true, ◌&&◌, ◌||◌, false≢true}
 use mathlib.Core.Logic.{◌⊎◌, inl, inr}
 use native.Mathlib.Omega.{arith}
 use lib.Dec.{leb, ltb}
 use lib.ListN.{length, get_or}
 use borrow.Author.Tests.{ltb-false, ltb-true, leb-true}
-use Rattle.paper.specs.Answer.{answer, ◌then◌, Wrote, Outside, BadStart}
+use Rattle.paper.specs.Answer.{answer, Wrote, Outside, BadStart}
 use Rattle.paper.specs.Image.{Map, byte_after, overlay, check_image}
 use Rattle.paper.specs.Diff.{Head, rest, content_of, address_of, check, named_by, named, names_outside}
 use Rattle.paper.specs.Volume.{run_end, run, Stretch, covers, Runs, no_run, one_more}
@@ -19,7 +19,7 @@ use Rattle.paper.proofs.Bools.{Which, holds, fails, which, and_true_left, and_tr
 use Rattle.paper.proofs.Answers.{answer_injective, guard_answer, then_answer}
 use Rattle.paper.proofs.Images.{overlay_length, overlay_at}
 use Rattle.paper.proofs.Overlay.{is_overlay}
-use Rattle.paper.proofs.Check.{Sound, sound, passes}
+use Rattle.paper.proofs.Check.{Sound, passes}
 use Rattle.paper.proofs.Names.{named_by_sound, named_by_found, seek_record, named_sound, names_record}
 
 -- f gives some blocks what F gives them, and no others anything

@@ -1,5 +1,5 @@
 -- A state record: what is written is read back, and what is read was good. Each field stands where its width puts it.
-use Prim.Native.Nat.{ℕ, ◌+◌}
+use Prim.Native.Nat.{ℕ}
 use mathlib.Core.Path.{◌≡◌, refl}
 use mathlib.Core.List.{List, [], ◌∷◌, ◌++◌, append_assoc, append-nil}
 use mathlib.Core.Bool.{not, ◌||◌}
@@ -7,7 +7,7 @@ use native.Mathlib.Omega.{arith}
 use lib.Dec.{eqb}
 use lib.ListN.{length, get_or, length-append}
 use Rattle.paper.specs.Limits.{state_size, state_mark}
-use Rattle.paper.specs.Number.{spelled, field, opens}
+use Rattle.paper.specs.Number.{spelled, opens}
 use Rattle.paper.specs.Answer.{answer, BadState}
 use Rattle.paper.specs.State.{State, state_of, state_bytes, bad_record, read_state}
 use Rattle.paper.proofs.Bools.{or_false_right}

@@ -10,7 +10,7 @@ use lib.ListN.{length, take, drop}
 use lib.Seq.{drop-drop}
 use borrow.Author.Tests.{leb-false}
 use Rattle.paper.specs.Limits.{block_bytes}
-use Rattle.paper.specs.Answer.{answer, ◌then◌, Outside}
+use Rattle.paper.specs.Answer.{answer, Outside}
 use Rattle.paper.specs.Image.{check_image, block, overlay}
 use Rattle.paper.specs.Diff.{Head, rest, content_of, check, seek, named_by, named, names_outside}
 use Rattle.paper.specs.Volume.{View, shown, view_of, read_through}

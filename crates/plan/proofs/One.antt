@@ -6,7 +6,6 @@ use mathlib.Core.Logic.{◌↔◌}
 use mathlib.Core.List.{List, [], ◌∷◌, map}
 use Rattle.paper.specs.Answer as table
 use Rattle.paper.specs.Answer.{Said, answer, refuse}
-use Rattle.paper.specs.Plan as Paper
 use Rattle.paper.specs.Plan.{laid_out}
 use Rattle.paper.proofs.Plans.{plan_one_outcome, NoList, no_chain_exactly}
 use Rattle.record.specs.declared.head.Head.{Head}

@@ -9,7 +9,7 @@ use Rattle.paper.specs.Answer.{answer}
 use Rattle.paper.specs.Image.{block, overlay}
 use Rattle.paper.specs.Diff.{Head, check, named}
 use Rattle.paper.specs.State.{state_bytes, read_state}
-use Rattle.paper.specs.Volume.{Further, while_state, done_state, decide, Runs}
+use Rattle.paper.specs.Volume.{Further, while_state, done_state, decide}
 use Rattle.paper.specs.History.{History, TrueDiff, Mixed}
 use Rattle.paper.proofs.Answers.{answer_injective}
 use Rattle.paper.proofs.Check.{sound, GoodHead, good_head}

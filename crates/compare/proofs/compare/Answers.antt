@@ -1,11 +1,8 @@
 -- Each check of 8 and 3 that refuses is a refusal of the whole, since those before it were passed; what passes them all is compared by `compare_sound`.
-use mathlib.Core.Path.{◌≡◌, sym, ap, ◌∙◌}
-use mathlib.Core.Bool.{false}
+use mathlib.Core.Path.{sym, ap, ◌∙◌}
 use native.Mathlib.Omega.{arith}
-use borrow.Author.Rules.{rules}
 use Rattle.paper.specs.Answer.{refuse}
-use Rattle.paper.specs.Image.{bad_image}
-use Rattle.paper.specs.Diff.{compared_head, check_head}
+use Rattle.paper.specs.Diff.{check_head}
 use Rattle.paper.proofs.Answers.{refused}
 use Rattle.paper.proofs.Images.{image_no, image_yes}
 use Rattle.record.specs.Images.{said_blocks}
@@ -16,31 +13,31 @@ use Rattle.compare.proofs.compare.Goals as goal
 pub returns-in-No : goal.returns-in-No
 returns-in-No c =
     let e =
-        let (bad, number) = image_no _ (sym c.check_image-first.ensures ∙ ap said_blocks c.in-No.is) in
-        refused c.args.out.now (first_bad _ _ _ _ _ bad ∙ ap refuse number)
+    let (bad, number) = image_no _ (sym c.check_image-first.ensures ∙ ap said_blocks c.in-No.is) in
+    refused c.args.out.now (first_bad _ _ _ _ _ bad ∙ ap refuse number)
     in
     record { answered = e.0; leaves = e.1 }
 
 pub returns-in-No-second : goal.returns-in-No-second
 returns-in-No-second c =
     let e =
-        let (bad, number) = image_no _ (sym c.check_image-second.ensures ∙ ap said_blocks c.in-No-second.is) in
-        refused c.args.out.now (second_bad _ _ _ _ _ bad ∙ ap refuse number)
+    let (bad, number) = image_no _ (sym c.check_image-second.ensures ∙ ap said_blocks c.in-No-second.is) in
+    refused c.args.out.now (second_bad _ _ _ _ _ bad ∙ ap refuse number)
     in
     record { answered = e.0; leaves = e.1 }
 
 pub returns-then-old-new : goal.returns-then-old-new
 returns-then-old-new c =
     let e =
-        refused c.args.out.now (unequal c.args.old.now c.args.new.now _ _ _ λ e. omega (arith, c.if-old-new.true))
+    refused c.args.out.now (unequal c.args.old.now c.args.new.now _ _ _ λ e. omega (arith, c.if-old-new.true))
     in
     record { answered = e.0; leaves = e.1 }
 
 pub returns-in-No-gids : goal.returns-in-No-gids
 returns-in-No-gids c =
     let e =
-        let (bad, number) = gids_no _ _ (sym (c.check-gids.ensures ∙ ap check_head c.compared.ensures) ∙ ap said_head c.in-No-gids.is) in
-        refused c.args.out.now (gids_bad _ _ _ _ _ (image_yes _ (sym c.check_image-first.ensures ∙ ap said_blocks c.in_default.is)) (image_yes _ (sym c.check_image-second.ensures ∙ ap said_blocks c.in_default-second.is)) c.if-old-new.false bad ∙ ap refuse number)
+    let (bad, number) = gids_no _ _ (sym (c.check-gids.ensures ∙ ap check_head c.compared.ensures) ∙ ap said_head c.in-No-gids.is) in
+    refused c.args.out.now (gids_bad _ _ _ _ _ (image_yes _ (sym c.check_image-first.ensures ∙ ap said_blocks c.in_default.is)) (image_yes _ (sym c.check_image-second.ensures ∙ ap said_blocks c.in_default-second.is)) c.if-old-new.false bad ∙ ap refuse number)
     in
     record { answered = e.0; leaves = e.1 }
 

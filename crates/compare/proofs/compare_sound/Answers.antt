@@ -1,7 +1,6 @@
 -- The blocks that differ are marked and counted first, so the size is known before anything is written; with room, the head and the records behind it are the diff.
 use mathlib.Core.Path.{ap, ◌∙◌}
 use native.Mathlib.Omega.{arith}
-use borrow.Author.Rules.{rules}
 use Rattle.paper.specs.Diff.{Head, head_bytes}
 use Rattle.paper.proofs.Answers.{refused}
 use Rattle.number.specs.Put.{put}
@@ -20,7 +19,7 @@ overflow_add-size c = omega (arith, few_marked _ _ _ _ _ (sized c.requires) c.ma
 pub returns-then-out-size : goal.returns-then-out-size
 returns-then-out-size c =
     let e =
-        refused c.args.out.now (no_room _ _ _ _ _ (sized c.requires) c.mark-count.ensures _ _ c.requires _ c.if-out-size.true)
+    refused c.args.out.now (no_room _ _ _ _ _ (sized c.requires) c.mark-count.ensures _ _ c.requires _ c.if-out-size.true)
     in
     record { answered = e.0; leaves = e.1 }
 
@@ -38,8 +37,8 @@ write_marked-requires c =
 pub returns : goal.returns
 returns c =
     let e =
-        let out = c.args.out.now in
-        let head = c.write.ensures ∙ ap (λ (h : Head). put 0 (head_bytes h) out) c.compared.ensures in
-        writes _ _ _ _ _ (sized c.requires) c.mark-count.ensures _ _ c.requires out c.write.new.out c.write_marked.new.out c.if-out-size.false head c.write_marked.ensures
+    let out = c.args.out.now in
+    let head = c.write.ensures ∙ ap (λ (h : Head). put 0 (head_bytes h) out) c.compared.ensures in
+    writes _ _ _ _ _ (sized c.requires) c.mark-count.ensures _ _ c.requires out c.write.new.out c.write_marked.new.out c.if-out-size.false head c.write_marked.ensures
     in
     record { answered = e.0; leaves = e.1 }

@@ -1,9 +1,7 @@
 -- Each marked block's record is put right behind the one before, and an unmarked block has none: after the last block all records stand.
-use Prim.Native.Nat.{◌-◌}
 use native.Mathlib.Omega.{arith}
 use lib.ListN.{length-take, length-drop}
-use borrow.Author.Rules.{rules}
-use Rattle.compare.proofs.Writing.{Writing, write_begins, write_skips, write_room, write_takes, write_ends}
+use Rattle.compare.proofs.Writing.{write_begins, write_skips, write_room, write_takes, write_ends}
 use Rattle.compare.proofs.write_marked.Goals as goal
 
 pub loop-a-init : goal.loop-a-init

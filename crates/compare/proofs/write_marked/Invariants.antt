@@ -1,9 +1,6 @@
 -- Each marked block's record is put right behind the one before, and an unmarked block has none: after the last block all records stand.
 use Prim.Native.Nat.{◌-◌}
-use native.Mathlib.Omega.{arith}
-use lib.ListN.{length-take, length-drop}
-use borrow.Author.Rules.{rules}
-use Rattle.compare.proofs.Writing.{Writing, write_begins, write_skips, write_room, write_takes, write_ends}
+use Rattle.compare.proofs.Writing.{Writing}
 use Rattle.compare.proofs.write_marked.Given as goal
 
 abbrev pub invariant-loop-a : goal.invariant-loop-a

@@ -2,7 +2,6 @@
 use mathlib.Core.Path.{sym, ap, ◌∙◌}
 use Rattle.record.specs.Heads.{said_head}
 use Rattle.diff.proofs.Answers.{head_no}
-use borrow.Author.Rules.{rules}
 use Rattle.diff.proofs.check.Goals as goal
 
 pub check_body-requires : goal.check_body-requires

@@ -5,7 +5,6 @@ use Rattle.paper.proofs.Check.{Headed, headed}
 use Rattle.record.specs.Heads.{head}
 use Rattle.record.specs.Records.{said_records}
 use Rattle.diff.proofs.Answers.{too_short, too_long, record_no, all_sound}
-use borrow.Author.Rules.{rules}
 use Rattle.diff.proofs.check_body.Goals as goal
 
 pub returns-then-d-size : goal.returns-then-d-size

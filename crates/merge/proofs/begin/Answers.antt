@@ -1,6 +1,5 @@
 -- Cursors at the first records of both diffs, and the lower of their addresses: nothing before it is named.
 use Rattle.merge.proofs.Walks.{begins}
-use borrow.Author.Rules.{rules}
 use Rattle.merge.proofs.begin.Goals as goal
 
 pub returns : goal.returns

@@ -3,7 +3,6 @@ use mathlib.Core.Path.{refl, sym, ◌∙◌}
 use native.Mathlib.Omega.{arith}
 use Rattle.paper.proofs.Check.{sound}
 use Rattle.merge.proofs.Cursors.{at_record, at_end}
-use borrow.Author.Rules.{rules}
 use Rattle.merge.proofs.cursor_at.Goals as goal
 
 pub address-address-requires : goal.address-address-requires

@@ -2,7 +2,6 @@
 use mathlib.Core.Path.{sym, ap, ◌∙◌}
 use Rattle.record.specs.Heads.{said_head}
 use Rattle.merge.proofs.Answers.{first_no}
-use borrow.Author.Rules.{rules}
 use Rattle.merge.proofs.merge.Goals as goal
 
 pub merge_second-requires : goal.merge_second-requires

@@ -2,7 +2,6 @@
 use mathlib.Core.Path.{sym, ap, ◌∙◌}
 use Rattle.record.specs.Heads.{said_head}
 use Rattle.merge.proofs.Answers.{second_no}
-use borrow.Author.Rules.{rules}
 use Rattle.merge.proofs.merge_second.Goals as goal
 
 pub merge_sound-requires : goal.merge_sound-requires

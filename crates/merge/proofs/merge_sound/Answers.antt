@@ -1,7 +1,6 @@
 -- One check after another in 01's order; where none refuses, the head and then the records are put, and nothing before.
 use Rattle.record.specs.Heads.{head}
 use Rattle.merge.proofs.Answers.{compared_first, compared_second, apart, no_room, all_written}
-use borrow.Author.Rules.{rules}
 use Rattle.merge.proofs.merge_sound.Goals as goal
 
 pub returns-then-h0-eq1 : goal.returns-then-h0-eq1

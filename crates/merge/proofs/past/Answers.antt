@@ -2,7 +2,6 @@
 use native.Mathlib.Omega.{arith}
 use Rattle.paper.proofs.Check.{sound}
 use Rattle.merge.proofs.Cursors.{on_waits, on_next}
-use borrow.Author.Rules.{rules}
 use Rattle.merge.proofs.past.Goals as goal
 
 pub returns-then-c-low : goal.returns-then-c-low

@@ -2,7 +2,6 @@
 use native.Mathlib.Omega.{arith}
 use Rattle.paper.proofs.Check.{sound}
 use Rattle.merge.proofs.Cursors.{on_record, on_few, record_first, record_second}
-use borrow.Author.Rules.{rules}
 use Rattle.merge.proofs.put_lowest.Goals as goal
 
 pub put_record-requires : goal.put_record-requires

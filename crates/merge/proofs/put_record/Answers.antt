@@ -6,7 +6,6 @@ use lib.ListN.{length-take, length-drop}
 use Rattle.paper.proofs.Check.{sound}
 use Rattle.record.proofs.Walk.{part_rest}
 use Rattle.merge.proofs.Cursors.{record_whole}
-use borrow.Author.Rules.{rules}
 use Rattle.merge.proofs.put_record.Goals as goal
 
 pub slice_bounds-copy_record-count : goal.slice_bounds-copy_record-count

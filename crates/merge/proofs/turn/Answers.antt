@@ -1,6 +1,5 @@
 -- Both cursors go past the address, which is named, and on to the lower of the next two: nothing between is named.
 use Rattle.merge.proofs.Walks.{turns}
-use borrow.Author.Rules.{rules}
 use Rattle.merge.proofs.turn.Goals as goal
 
 pub returns : goal.returns

@@ -1,10 +1,7 @@
 -- Each turn puts one record after those before it, so what stands and what is left are the whole at every turn.
-use Prim.Native.Nat.{◌-◌}
 use native.Mathlib.Omega.{arith}
 use lib.ListN.{length-take, length-drop}
-use Rattle.record.specs.Heads.{head}
-use Rattle.merge.proofs.Walks.{Writing, write_begins, write_goes_on, write_room, write_ends}
-use borrow.Author.Rules.{rules}
+use Rattle.merge.proofs.Walks.{write_begins, write_goes_on, write_room, write_ends}
 use Rattle.merge.proofs.write_records.Goals as goal
 
 pub loop-w-init : goal.loop-w-init

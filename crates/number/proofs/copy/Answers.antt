@@ -1,10 +1,7 @@
 -- What is copied so far is a front of src, and the rest of dst is as it was: one byte more goes from the rest to the front.
-use Prim.Native.Nat.{◌≤◌, ◌-◌}
 use mathlib.Core.Path.{◌≡◌}
-use mathlib.Core.List.{◌++◌}
 use native.Mathlib.Omega.{arith}
-use lib.ListN.{length, take, drop, length-set}
-use borrow.Author.Rules.{rules}
+use lib.ListN.{length-set}
 use Rattle.number.proofs.Puts.{copy_more}
 use Rattle.number.proofs.copy.Goals as goal
 

@@ -1,7 +1,6 @@
 -- `number::read_u32` meets its contract: the four bytes, each times its place, are the field.
 use native.Mathlib.Omega.{arith}
 use Rattle.number.proofs.Fields.{field_4}
-use borrow.Author.Rules.{rules}
 use Rattle.number.proofs.read_u32.Goals as goal
 
 pub returns : goal.returns

@@ -1,7 +1,6 @@
 -- `number::read_u64` meets its contract: eight bytes are four and four.
 use native.Mathlib.Omega.{arith}
 use Rattle.number.proofs.Fields.{field_8}
-use borrow.Author.Rules.{rules}
 use Rattle.number.proofs.read_u64.Goals as goal
 
 pub returns : goal.returns

@@ -1,9 +1,6 @@
 -- `number::same_block` meets its contract: a part that differs settles it, and one that is the same leaves the rest to decide.
 use Prim.Native.Nat.{◌-◌}
-use native.Mathlib.Omega.{arith}
-use lib.ListN.{length-take, length-drop}
-use borrow.Author.Rules.{rules}
-use Rattle.number.proofs.Blocks.{Parting, part_begins, part_differs, part_on, part_ends}
+use Rattle.number.proofs.Blocks.{Parting}
 use Rattle.number.proofs.same_block.Given as goal
 
 abbrev pub invariant-loop-at : goal.invariant-loop-at

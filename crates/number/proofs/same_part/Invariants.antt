@@ -1,8 +1,6 @@
 -- `number::same_part` meets its contract: a byte that differs makes the two unlike, and one that is the same leaves the rest to decide.
 use Prim.Native.Nat.{◌-◌}
-use native.Mathlib.Omega.{arith}
-use Rattle.number.proofs.Blocks.{Comparing, compare_begins, compare_differs, compare_on, compare_ends}
-use borrow.Author.Rules.{rules}
+use Rattle.number.proofs.Blocks.{Comparing}
 use Rattle.number.proofs.same_part.Given as goal
 
 abbrev pub invariant-loop-i : goal.invariant-loop-i

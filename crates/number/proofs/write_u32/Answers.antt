@@ -5,7 +5,6 @@ use Rattle.paper.specs.Number.{spelled}
 use native.Mathlib.Omega.{arith}
 use lib.ListN.{length-set}
 use Rattle.number.proofs.Puts.{put_4}
-use borrow.Author.Rules.{rules}
 use Rattle.number.proofs.write_u32.Goals as goal
 
 pub bounds-s-at-2 : goal.bounds-s-at-2

@@ -1,7 +1,6 @@
 -- `number::write_u64` meets its contract: the lower half and the upper half, put one after the other, are the number's bytes.
 use native.Mathlib.Omega.{arith}
 use Rattle.number.proofs.Puts.{put_8}
-use borrow.Author.Rules.{rules}
 use Rattle.number.proofs.write_u64.Goals as goal
 
 pub returns : goal.returns

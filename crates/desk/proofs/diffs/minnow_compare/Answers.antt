@@ -1,5 +1,4 @@
 -- `minnow_compare` meets its contract: what the comparison said and left is its row, case by case.
-use borrow.Author.Rules.{rules}
 use Rattle.desk.proofs.Rows.{length_no, length_yes}
 use Rattle.desk.proofs.diffs.minnow_compare.Goals as goal
 

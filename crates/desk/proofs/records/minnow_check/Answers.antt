@@ -1,5 +1,4 @@
 -- `minnow_check` meets its contract: a refusal hands out nothing, and a sound head its four fields.
-use borrow.Author.Rules.{rules}
 use Rattle.desk.proofs.Rows.{head_no, head_yes}
 use Rattle.desk.proofs.records.minnow_check.Goals as goal
 

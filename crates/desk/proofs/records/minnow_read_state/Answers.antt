@@ -1,5 +1,4 @@
 -- `minnow_read_state` meets its contract: a refusal hands out nothing, and a state its kind and its gids.
-use borrow.Author.Rules.{rules}
 use Rattle.desk.proofs.Rows.{state_no, state_yes}
 use Rattle.desk.proofs.records.minnow_read_state.Goals as goal
 

@@ -1,5 +1,4 @@
 -- `minnow_write_state` meets its contract: no state has a kind above 2, and every other value is written or refused as `State::write` says.
-use borrow.Author.Rules.{rules}
 use Rattle.desk.proofs.Rows.{kind_no, length_no, length_yes}
 use Rattle.desk.proofs.records.minnow_write_state.Goals as goal
 

@@ -1,9 +1,7 @@
 -- `lay_out` meets its contract: what is copied so far is a front of the places, and the rest of `out` is as it was.
-use Prim.Native.Nat.{◌≤◌, ◌-◌}
 use mathlib.Core.Path.{◌≡◌}
-use mathlib.Core.List.{◌++◌}
 use native.Mathlib.Omega.{arith}
-use lib.ListN.{length, take, drop, length-set}
+use lib.ListN.{length, length-set}
 use lib.Seq.{take_all}
 use borrow.Author.Rules.{rules}
 use Rattle.number.proofs.Puts.{copy_more}

@@ -2,11 +2,7 @@
 use Prim.Native.Nat.{◌≤◌, ◌-◌}
 use mathlib.Core.Path.{◌≡◌}
 use mathlib.Core.List.{◌++◌}
-use native.Mathlib.Omega.{arith}
-use lib.ListN.{length, take, drop, length-set}
-use lib.Seq.{take_all}
-use borrow.Author.Rules.{rules}
-use Rattle.number.proofs.Puts.{copy_more}
+use lib.ListN.{length, take, drop}
 use Rattle.desk.proofs.restores.lay_out.Given as goal
 
 abbrev pub invariant-loop-i : goal.invariant-loop-i

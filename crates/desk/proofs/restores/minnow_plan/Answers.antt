@@ -1,5 +1,4 @@
 -- `minnow_plan` meets its contract: a shelf that is too long or cannot be read is refused; the rest is `plan_on`'s.
-use borrow.Author.Rules.{rules}
 use Rattle.desk.proofs.Planning.{shelf_full, shelf_no, shelf_yes}
 use Rattle.desk.proofs.restores.minnow_plan.Goals as goal
 

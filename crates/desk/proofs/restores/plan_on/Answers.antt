@@ -1,5 +1,4 @@
 -- `plan_on` meets its contract: what the plan says is refused, has no room, or is laid out.
-use borrow.Author.Rules.{rules}
 use Rattle.desk.proofs.Planning.{plan_short, plan_no, plan_yes}
 use Rattle.desk.proofs.restores.plan_on.Goals as goal
 

@@ -1,9 +1,5 @@
 -- `shelve` meets its contract: `Reading` holds before each entry, and each way out says what is read.
-use Prim.Native.Nat.{◌-◌}
-use mathlib.Core.Path.{refl}
-use native.Mathlib.Omega.{arith}
-use borrow.Author.Rules.{rules}
-use Rattle.desk.proofs.Shelving.{Reading, read_begin, entry_reads, entry_refused, read_end}
+use Rattle.desk.proofs.Shelving.{read_begin, entry_reads, entry_refused, read_end}
 use Rattle.desk.proofs.restores.shelve.Goals as goal
 
 pub loop-i-init : goal.loop-i-init

@@ -1,9 +1,6 @@
 -- `shelve` meets its contract: `Reading` holds before each entry, and each way out says what is read.
 use Prim.Native.Nat.{◌-◌}
-use mathlib.Core.Path.{refl}
-use native.Mathlib.Omega.{arith}
-use borrow.Author.Rules.{rules}
-use Rattle.desk.proofs.Shelving.{Reading, read_begin, entry_reads, entry_refused, read_end}
+use Rattle.desk.proofs.Shelving.{Reading}
 use Rattle.desk.proofs.restores.shelve.Given as goal
 
 abbrev pub invariant-loop-i : goal.invariant-loop-i

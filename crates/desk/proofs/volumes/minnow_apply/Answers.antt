@@ -1,5 +1,4 @@
 -- `minnow_apply` meets its contract: with too little room the answer is `without_room`'s; else Done is a state, so its record is written.
-use borrow.Author.Rules.{rules}
 use Rattle.desk.proofs.Deciding.{apply_short, apply_no, apply_yes}
 use Rattle.desk.proofs.volumes.minnow_apply.Goals as goal
 

@@ -1,5 +1,4 @@
 -- `minnow_decide` meets its contract: the decision's refusals come first, then room for the two records; both states are states, so their records are written.
-use borrow.Author.Rules.{rules}
 use Rattle.desk.proofs.Deciding.{no_room_for_while, no_room_for_done, decide_no, decide_yes}
 use Rattle.desk.proofs.volumes.minnow_decide.Goals as goal
 

@@ -1,5 +1,4 @@
 -- `minnow_read_through` meets its contract: each place is a slice and an offset.
-use borrow.Author.Rules.{rules}
 use Rattle.desk.proofs.Rows.{view_no, view_in_diff, view_in_image}
 use Rattle.desk.proofs.volumes.minnow_read_through.Goals as goal
 

@@ -1,5 +1,4 @@
 -- `minnow_run` meets its contract: what the run said and left is its row, case by case.
-use borrow.Author.Rules.{rules}
 use Rattle.desk.proofs.Rows.{run_no, run_yes}
 use Rattle.desk.proofs.volumes.minnow_run.Goals as goal
 

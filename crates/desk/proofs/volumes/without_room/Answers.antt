@@ -1,5 +1,4 @@
 -- `without_room` meets its contract: the decision's refusals come first, and NoRoom is what is left.
-use borrow.Author.Rules.{rules}
 use Rattle.desk.proofs.Deciding.{none_no, none_yes}
 use Rattle.desk.proofs.volumes.without_room.Goals as goal
 

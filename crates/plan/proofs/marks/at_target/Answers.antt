@@ -1,6 +1,4 @@
 -- `at_target` meets its contract: both tests of "clean at the target" are made.
-use borrow.Author.Tests.{not-true, not-false}
-use borrow.Author.Rules.{rules}
 use Rattle.paper.specs.Plan.{at_target}
 use Rattle.plan.proofs.marks.at_target.Goals as goal
 

@@ -1,8 +1,5 @@
 -- `lead` meets its contract: no place passed by is accepted and marked, so the first that is found is the lowest.
-use Prim.Native.Nat.{◌-◌}
-use borrow.Author.Rules.{rules}
-use Rattle.record.specs.States.{state}
-use Rattle.plan.proofs.Leads.{Leading, lead_begins, lead_here, lead_on, lead_ends}
+use Rattle.plan.proofs.Leads.{lead_begins, lead_here, lead_on, lead_ends}
 use Rattle.plan.proofs.marks.lead.Goals as goal
 
 pub loop-i-init : goal.loop-i-init

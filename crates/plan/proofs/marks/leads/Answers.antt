@@ -1,7 +1,5 @@
 -- `leads` meets its contract: an entry without a mark is passed by, and of the others the decision says whether they are accepted.
 use mathlib.Core.Bool.{and-false}
-use borrow.Author.Tests.{not-true, not-false}
-use borrow.Author.Rules.{rules}
 use Rattle.paper.proofs.Step.{accepted}
 use Rattle.plan.proofs.marks.leads.Goals as goal
 

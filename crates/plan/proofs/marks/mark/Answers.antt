@@ -1,10 +1,7 @@
 -- `mark` meets its contract: the marks stay sound, a sweep that changes one leaves fewer to set, and one that changes none shows that no mark is missing.
-use Prim.Native.Nat.{◌-◌}
 use borrow.Author.Tests.{not-true, not-false}
-use Rattle.paper.proofs.Count.{how_many}
-use Rattle.paper.proofs.Marks.{Sound, no_marks_sound, marked, none_marked}
+use Rattle.paper.proofs.Marks.{no_marks_sound, none_marked}
 use Rattle.paper.proofs.Planner.{sweep_leaves_fewer, sweep_ends}
-use Rattle.plan.specs.Shelves.{shelf}
 use Rattle.plan.proofs.marks.mark.Goals as goal
 
 pub loop-on-init : goal.loop-on-init

@@ -2,10 +2,8 @@
 use mathlib.Core.Path.{◌≡◌, sym, ◌∙◌}
 use native.Mathlib.Omega.{arith}
 use lib.ListN.{length}
-use borrow.Author.Tests.{not-true, not-false}
 use borrow.Author.Rules.{rules}
-use Rattle.paper.proofs.Planner.{Swept, sweep_begins, sweep_marks, sweep_passes_marked, sweep_passes_unmarked}
-use Rattle.plan.specs.Shelves.{shelf}
+use Rattle.paper.proofs.Planner.{sweep_begins, sweep_marks, sweep_passes_marked, sweep_passes_unmarked}
 use Rattle.plan.proofs.marks.sweep.Goals as goal
 
 pub loop-j-init : goal.loop-j-init

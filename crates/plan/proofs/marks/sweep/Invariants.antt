@@ -1,10 +1,5 @@
 -- `sweep` meets its contract: a place that it marks leads to the target, and a place that it leaves is marked already or leads nowhere yet.
-use mathlib.Core.Path.{◌≡◌, sym, ◌∙◌}
-use native.Mathlib.Omega.{arith}
-use lib.ListN.{length}
-use borrow.Author.Tests.{not-true, not-false}
-use borrow.Author.Rules.{rules}
-use Rattle.paper.proofs.Planner.{Swept, sweep_begins, sweep_marks, sweep_passes_marked, sweep_passes_unmarked}
+use Rattle.paper.proofs.Planner.{Swept}
 use Rattle.plan.specs.Shelves.{shelf}
 use Rattle.plan.proofs.marks.sweep.Given as goal
 

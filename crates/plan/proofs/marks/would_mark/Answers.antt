@@ -1,6 +1,5 @@
 -- `would_mark` meets its contract: the state after the place is at the target, or its lowest lead says whether a marked place follows.
 use mathlib.Core.Path.{sym, ap, ◌∙◌}
-use borrow.Author.Rules.{rules}
 use Rattle.record.specs.States.{state}
 use Rattle.record.specs.Records.{said_found}
 use Rattle.plan.proofs.Leads.{mark_there, mark_follows, mark_not}

@@ -1,6 +1,5 @@
 -- `plan_restore` meets its contract: the count, then the entries, then the checks that `plan_state` makes.
 use mathlib.Core.Path.{sym, ap, ◌∙◌}
-use borrow.Author.Rules.{rules}
 use Rattle.plan.specs.Shelves.{said_entries}
 use Rattle.plan.proofs.Answering.{full_no, entry_no}
 use Rattle.plan.proofs.planning.plan_restore.Goals as goal

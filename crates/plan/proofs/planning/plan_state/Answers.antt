@@ -1,6 +1,5 @@
 -- `plan_state` meets its contract: the state, then the target, then what the search finds, as the plan's checks have them.
 use mathlib.Core.Path.{sym, ap, ◌∙◌}
-use borrow.Author.Rules.{rules}
 use Rattle.record.specs.States.{said_state}
 use Rattle.plan.proofs.Answering.{state_no, gid_no, search_says}
 use Rattle.plan.proofs.planning.plan_state.Goals as goal

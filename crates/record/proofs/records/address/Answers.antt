@@ -5,7 +5,6 @@ use Rattle.paper.specs.Diff.{address_of}
 use native.Mathlib.Omega.{arith}
 use lib.ListN.{length-take, length-drop}
 use Rattle.record.proofs.Walk.{part_rest}
-use borrow.Author.Rules.{rules}
 use Rattle.record.proofs.records.address.Goals as goal
 
 pub address_of-requires : goal.address_of-requires

@@ -1,9 +1,8 @@
 -- `records::check_records` meets its contract: what is left to check, from the record at hand on, is the whole answer at every turn.
-use Prim.Native.Nat.{◌-◌, ◌≤◌}
+use Prim.Native.Nat.{◌≤◌}
 use native.Mathlib.Omega.{arith}
 use lib.ListN.{length-take, length-drop}
-use Rattle.record.proofs.Walk.{Checking, check_begins, small_address, check_goes_on, check_refuses, check_ends}
-use borrow.Author.Rules.{rules}
+use Rattle.record.proofs.Walk.{check_begins, small_address, check_goes_on, check_refuses, check_ends}
 use Rattle.record.proofs.records.check_records.Goals as goal
 
 pub loop-i-init : goal.loop-i-init

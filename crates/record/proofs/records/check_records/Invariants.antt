@@ -1,9 +1,6 @@
 -- `records::check_records` meets its contract: what is left to check, from the record at hand on, is the whole answer at every turn.
-use Prim.Native.Nat.{◌-◌, ◌≤◌}
-use native.Mathlib.Omega.{arith}
-use lib.ListN.{length-take, length-drop}
-use Rattle.record.proofs.Walk.{Checking, check_begins, small_address, check_goes_on, check_refuses, check_ends}
-use borrow.Author.Rules.{rules}
+use Prim.Native.Nat.{◌-◌}
+use Rattle.record.proofs.Walk.{Checking}
 use Rattle.record.proofs.records.check_records.Given as goal
 
 abbrev pub invariant-loop-i : goal.invariant-loop-i

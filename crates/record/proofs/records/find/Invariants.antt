@@ -1,9 +1,6 @@
 -- `records::find` meets its contract: what is left to look through is the whole answer at every turn.
-use Rattle.record.specs.Heads.{head}
 use Prim.Native.Nat.{◌-◌}
-use native.Mathlib.Omega.{arith}
-use Rattle.record.proofs.Walk.{Seeking, seek_begins, seek_stops, seek_goes_on, seek_finishes}
-use borrow.Author.Rules.{rules}
+use Rattle.record.proofs.Walk.{Seeking}
 use Rattle.record.proofs.records.find.Given as goal
 
 abbrev pub invariant-loop-i : goal.invariant-loop-i

@@ -4,7 +4,6 @@ use Rattle.paper.proofs.Check.{sound}
 use Rattle.record.specs.Heads.{head}
 use native.Mathlib.Omega.{arith}
 use Rattle.record.proofs.Walk.{outside_none, outside_last}
-use borrow.Author.Rules.{rules}
 use Rattle.record.proofs.records.names_outside.Goals as goal
 
 pub returns-then-n-eq0 : goal.returns-then-n-eq0

@@ -1,6 +1,5 @@
 -- `decide` meets its contract: the diff is checked, and where it passes the checks that are left are those of `decide_state`.
 use mathlib.Core.Path.{sym, ap, ◌∙◌}
-use borrow.Author.Rules.{rules}
 use Rattle.record.specs.Heads.{said_head}
 use Rattle.volume.proofs.Deciding.{diff_no}
 use Rattle.volume.proofs.decision.decide.Goals as goal

@@ -1,6 +1,5 @@
 -- `decide_image` meets its contract: the image rule, then Outside, then the decision on the values, as `decide` has them.
 use mathlib.Core.Path.{sym, ap, ◌∙◌}
-use borrow.Author.Rules.{rules}
 use Rattle.record.specs.Images.{said_blocks}
 use Rattle.volume.proofs.Deciding.{image_no, outside_no, values_decide}
 use Rattle.volume.proofs.decision.decide_image.Goals as goal

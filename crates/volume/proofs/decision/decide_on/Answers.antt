@@ -1,7 +1,6 @@
 -- `decide_on` meets its contract: it makes the tests of rules 11 to 14 in their order, and where all are passed it gives the two further states.
 use mathlib.Core.Path.{sym, ◌∙◌}
-use borrow.Author.Rules.{rules}
-use borrow.Author.Tests.{eq-eqb, ne_eqb, not-true}
+use borrow.Author.Tests.{eq-eqb, ne_eqb}
 use Rattle.volume.proofs.Deciding.{behind_no, gap_no, short_no, exact_no, all_passed}
 use Rattle.volume.proofs.decision.decide_on.Goals as goal
 

@@ -1,6 +1,5 @@
 -- `decide_state` meets its contract: the state is read, and where it passes the checks that are left are those of `decide_image`.
 use mathlib.Core.Path.{sym, ap, ◌∙◌}
-use borrow.Author.Rules.{rules}
 use Rattle.record.specs.States.{said_state}
 use Rattle.volume.proofs.Deciding.{state_no}
 use Rattle.volume.proofs.decision.decide_state.Goals as goal

@@ -1,5 +1,4 @@
 -- `is_exact` meets its contract: it makes the tests of `exact` one by one, and kind 2 is the pair's alone.
-use borrow.Author.Rules.{rules}
 use borrow.Author.Tests.{eq-eqb, ne_eqb}
 use Rattle.paper.specs.Volume.{exact}
 use Rattle.volume.proofs.decision.is_exact.Goals as goal

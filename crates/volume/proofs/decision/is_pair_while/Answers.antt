@@ -1,5 +1,4 @@
 -- `is_pair_while` meets its contract: a compared diff makes a pair, and of any other diff the test is whether the state was clean.
-use borrow.Author.Rules.{rules}
 use borrow.Author.Tests.{eq-eqb, ne_eqb}
 use Rattle.paper.specs.Volume.{is_pair_while}
 use Rattle.volume.proofs.decision.is_pair_while.Goals as goal

@@ -1,5 +1,4 @@
 -- `while_state` meets its contract: each field is the one that `while_state` gives, and the kind is the test's.
-use borrow.Author.Rules.{rules}
 use Rattle.paper.specs.Volume.{while_state}
 use Rattle.volume.proofs.decision.while_state.Goals as goal
 

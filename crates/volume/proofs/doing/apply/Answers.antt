@@ -2,7 +2,6 @@
 use mathlib.Core.Path.{sym, ap, ◌∙◌}
 use Rattle.volume.specs.Decisions.{said_decision}
 use Rattle.volume.proofs.Applying.{apply_no, has_head, apply_may, applied}
-use borrow.Author.Rules.{rules}
 use Rattle.volume.proofs.doing.apply.Goals as goal
 
 pub of-h-requires : goal.of-h-requires
@@ -16,14 +15,14 @@ write_records-requires c =
 pub returns-in-Refused : goal.returns-in-Refused
 returns-in-Refused c =
     let e =
-        apply_no _ _ _ _ (sym c.decide-said.ensures ∙ ap said_decision c.in-Refused.is)
+    apply_no _ _ _ _ (sym c.decide-said.ensures ∙ ap said_decision c.in-Refused.is)
     in
     record { answered = e.0; leaves = e.1 }
 
 pub returns-in-Accepted : goal.returns-in-Accepted
 returns-in-Accepted c =
     let e =
-        applied _ _ _ _ (sym c.decide-said.ensures ∙ ap said_decision c.in-Accepted.is) _ _
-        c.of-h.ensures c.write_records.ensures
+    applied _ _ _ _ (sym c.decide-said.ensures ∙ ap said_decision c.in-Accepted.is) _ _
+    c.of-h.ensures c.write_records.ensures
     in
     record { answered = e.0; leaves = e.1 }

@@ -2,7 +2,6 @@
 use mathlib.Core.Path.{sym, ap, ◌∙◌}
 use Rattle.record.specs.Heads.{said_head}
 use Rattle.volume.proofs.Applying.{diff_no}
-use borrow.Author.Rules.{rules}
 use Rattle.volume.proofs.doing.run.Goals as goal
 
 pub run_image-requires : goal.run_image-requires
@@ -12,6 +11,6 @@ run_image-requires c =
 pub returns-in-No : goal.returns-in-No
 returns-in-No c =
     let e =
-        diff_no _ _ _ _ _ (sym c.check-said.ensures ∙ ap said_head c.in-No.is)
+    diff_no _ _ _ _ _ (sym c.check-said.ensures ∙ ap said_head c.in-No.is)
     in
     record { answered = e.0; leaves = e.1 }

@@ -2,22 +2,21 @@
 use mathlib.Core.Path.{sym, ap, ◌∙◌}
 use Rattle.record.specs.Images.{said_blocks}
 use Rattle.volume.proofs.Applying.{image_no, outside_no, start_no, run_may, ran}
-use borrow.Author.Rules.{rules}
 use Rattle.volume.proofs.doing.run_image.Goals as goal
 
 pub returns-then-names_outside : goal.returns-then-names_outside
 returns-then-names_outside c =
     let e =
-        outside_no _ _ _ _ _ c.requires _ (sym c.check_image-said.ensures ∙ ap said_blocks c.in-Blocks.is)
-        (sym c.names_outside.ensures ∙ c.if-names_outside.true)
+    outside_no _ _ _ _ _ c.requires _ (sym c.check_image-said.ensures ∙ ap said_blocks c.in-Blocks.is)
+    (sym c.names_outside.ensures ∙ c.if-names_outside.true)
     in
     record { answered = e.0; leaves = e.1 }
 
 pub returns-then-i-n : goal.returns-then-i-n
 returns-then-i-n c =
     let e =
-        start_no _ _ _ _ _ c.requires _ (sym c.check_image-said.ensures ∙ ap said_blocks c.in-Blocks.is)
-        (sym c.names_outside.ensures ∙ c.if-names_outside.false) c.if-i-n.true
+    start_no _ _ _ _ _ c.requires _ (sym c.check_image-said.ensures ∙ ap said_blocks c.in-Blocks.is)
+    (sym c.names_outside.ensures ∙ c.if-names_outside.false) c.if-i-n.true
     in
     record { answered = e.0; leaves = e.1 }
 
@@ -29,15 +28,15 @@ write_records-requires c =
 pub returns-in-No : goal.returns-in-No
 returns-in-No c =
     let e =
-        image_no _ _ _ _ _ c.requires _ (sym c.check_image-said.ensures ∙ ap said_blocks c.in-No.is)
+    image_no _ _ _ _ _ c.requires _ (sym c.check_image-said.ensures ∙ ap said_blocks c.in-No.is)
     in
     record { answered = e.0; leaves = e.1 }
 
 pub returns-else-i-n : goal.returns-else-i-n
 returns-else-i-n c =
     let e =
-        ran _ _ _ _ _ c.requires _ (sym c.check_image-said.ensures ∙ ap said_blocks c.in-Blocks.is)
-        (sym c.names_outside.ensures ∙ c.if-names_outside.false) c.if-i-n.false _ c.run_end-end.ensures _
-        c.write_records.ensures
+    ran _ _ _ _ _ c.requires _ (sym c.check_image-said.ensures ∙ ap said_blocks c.in-Blocks.is)
+    (sym c.names_outside.ensures ∙ c.if-names_outside.false) c.if-i-n.false _ c.run_end-end.ensures _
+    c.write_records.ensures
     in
     record { answered = e.0; leaves = e.1 }

@@ -1,6 +1,5 @@
 -- `lag` meets its contract: a state that is read has its gids below 2^63, and a target that passes too, so that their difference is an i64.
 use mathlib.Core.Path.{sym, ap, ◌∙◌}
-use borrow.Author.Rules.{rules}
 use Rattle.paper.proofs.Saved.{read_good}
 use Rattle.record.specs.States.{said_state}
 use Rattle.volume.proofs.Deciding.{lag_no, gid_no, lag_gids}

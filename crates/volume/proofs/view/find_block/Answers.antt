@@ -2,7 +2,6 @@
 use mathlib.Core.Path.{sym, ap, ◌∙◌}
 use Rattle.record.specs.Heads.{said_head}
 use Rattle.volume.proofs.Viewing.{diff_no}
-use borrow.Author.Rules.{rules}
 use Rattle.volume.proofs.view.find_block.Goals as goal
 
 pub find_in-requires : goal.find_in-requires

@@ -6,7 +6,6 @@ use Rattle.paper.proofs.Images.{image_blocks}
 use Rattle.record.specs.Images.{said_blocks}
 use Rattle.record.specs.Records.{said_found}
 use Rattle.volume.proofs.Viewing.{image_no, outside_no, beyond_no, looked_up, found_low}
-use borrow.Author.Rules.{rules}
 use Rattle.volume.proofs.view.find_in.Goals as goal
 
 pub returns-then-names_outside : goal.returns-then-names_outside

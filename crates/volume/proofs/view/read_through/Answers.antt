@@ -3,7 +3,6 @@ use mathlib.Core.Path.{sym, ap, ◌∙◌}
 use native.Mathlib.Omega.{arith}
 use Rattle.volume.specs.Views.{said_place}
 use Rattle.volume.proofs.Viewing.{view_within, hands_diff, hands_image, hands_nothing}
-use borrow.Author.Rules.{rules}
 use Rattle.volume.proofs.view.read_through.Goals as goal
 
 pub overflow_add-end : goal.overflow_add-end
@@ -29,21 +28,21 @@ slice_bounds-result-end-in-InImage c =
 pub returns-in-InDiff : goal.returns-in-InDiff
 returns-in-InDiff c =
     let e =
-        hands_diff _ _ _ c.args.d.ref_ptr c.args.img.ref_ptr _ (sym c.find_block-p.ensures ∙ ap said_place c.in-InDiff.is)
+    hands_diff _ _ _ c.args.d.ref_ptr c.args.img.ref_ptr _ (sym c.find_block-p.ensures ∙ ap said_place c.in-InDiff.is)
     in
     record { told = e.0; shown = e.1.0; placed = e.1.1 }
 
 pub returns-in-InImage : goal.returns-in-InImage
 returns-in-InImage c =
     let e =
-        hands_image _ _ _ c.args.d.ref_ptr c.args.img.ref_ptr _ (sym c.find_block-p.ensures ∙ ap said_place c.in-InImage.is)
+    hands_image _ _ _ c.args.d.ref_ptr c.args.img.ref_ptr _ (sym c.find_block-p.ensures ∙ ap said_place c.in-InImage.is)
     in
     record { told = e.0; shown = e.1.0; placed = e.1.1 }
 
 pub returns-in-No : goal.returns-in-No
 returns-in-No c =
     let e =
-        hands_nothing _ _ _ c.args.d.ref_ptr c.args.img.ref_ptr _ _ c.number.ensures
-        (sym c.find_block-p.ensures ∙ ap said_place c.in-No.is)
+    hands_nothing _ _ _ c.args.d.ref_ptr c.args.img.ref_ptr _ _ c.number.ensures
+    (sym c.find_block-p.ensures ∙ ap said_place c.in-No.is)
     in
     record { told = e.0; shown = e.1.0; placed = e.1.1 }

@@ -1,9 +1,7 @@
 -- Each turn puts one record's content at its block, so what the records left would make of the image stays the same; after the last one it is the image.
-use Prim.Native.Nat.{◌-◌}
 use native.Mathlib.Omega.{arith}
 use lib.ListN.{length-take, length-drop}
-use Rattle.volume.proofs.Writing.{Writing, write_begins, turn, write_goes_on, write_ends}
-use borrow.Author.Rules.{rules}
+use Rattle.volume.proofs.Writing.{write_begins, turn, write_goes_on, write_ends}
 use Rattle.volume.proofs.write.write_records.Goals as goal
 
 pub loop-j-init : goal.loop-j-init

@@ -1,9 +1,6 @@
 -- Each turn puts one record's content at its block, so what the records left would make of the image stays the same; after the last one it is the image.
 use Prim.Native.Nat.{◌-◌}
-use native.Mathlib.Omega.{arith}
-use lib.ListN.{length-take, length-drop}
-use Rattle.volume.proofs.Writing.{Writing, write_begins, turn, write_goes_on, write_ends}
-use borrow.Author.Rules.{rules}
+use Rattle.volume.proofs.Writing.{Writing}
 use Rattle.volume.proofs.write.write_records.Given as goal
 
 abbrev pub invariant-loop-j : goal.invariant-loop-j

@@ -1,7 +1,6 @@
 -- `Plan::refused` meets its contract: it is laid out as 01 has a refusal, with nothing but its number.
 use mathlib.Core.Path.{refl, ap}
 use lib.ListN.{replicate}
-use borrow.Author.Rules.{rules}
 use Rattle.paper.specs.Plan.{laid_out}
 use Rattle.plan.proofs.planning.Plan.refused.Goals as goal
 

@@ -1,7 +1,5 @@
 -- `Shelf::check` meets its contract: the entries that are left say what all of them say, and each turn takes one off.
-use Prim.Native.Nat.{◌-◌}
-use borrow.Author.Rules.{rules}
-use Rattle.plan.proofs.Entries.{Entering, entries_begin, entry_passes, entry_refused, entries_end}
+use Rattle.plan.proofs.Entries.{entries_begin, entry_passes, entry_refused, entries_end}
 use Rattle.plan.proofs.shelf.Shelf.check.Goals as goal
 
 pub loop-i-init : goal.loop-i-init

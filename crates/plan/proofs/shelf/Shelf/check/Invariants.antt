@@ -1,7 +1,6 @@
 -- `Shelf::check` meets its contract: the entries that are left say what all of them say, and each turn takes one off.
 use Prim.Native.Nat.{◌-◌}
-use borrow.Author.Rules.{rules}
-use Rattle.plan.proofs.Entries.{Entering, entries_begin, entry_passes, entry_refused, entries_end}
+use Rattle.plan.proofs.Entries.{Entering}
 use Rattle.plan.proofs.shelf.Shelf.check.Given as goal
 
 abbrev pub invariant-loop-i : goal.invariant-loop-i

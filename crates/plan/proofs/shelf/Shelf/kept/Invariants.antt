@@ -1,11 +1,6 @@
 -- `Shelf::kept` meets its contract: what is filled so far is the front of the shelf, and the rest is blank.
 use Prim.Native.Nat.{◌-◌}
-use mathlib.Core.Path.{◌≡◌, refl}
-use native.Mathlib.Omega.{arith}
-use lib.ListN.{length}
-use borrow.Author.Rules.{rules}
-use Rattle.plan.proofs.Entries.{Keeping, keep_one, keep_end}
-use Rattle.plan.proofs.Fills.{length_mapped}
+use Rattle.plan.proofs.Entries.{Keeping}
 use Rattle.plan.proofs.shelf.Shelf.kept.Given as goal
 
 abbrev pub invariant-loop-i : goal.invariant-loop-i

@@ -1,5 +1,4 @@
 -- The address is the number in the four bytes after the mark.
-use borrow.Author.Rules.{rules}
 use Rattle.paper.specs.Diff.{address_of}
 use Rattle.record.proofs.block.Block.address_of.Goals as goal
 

@@ -1,7 +1,6 @@
 -- The mark, byte by byte, and then the address against its two bounds: each return is one answer of the record's check.
 use mathlib.Core.Path.{sym}
 use native.Mathlib.Omega.{arith}
-use borrow.Author.Rules.{rules}
 use Rattle.paper.proofs.Check.{record_passes}
 use Rattle.record.proofs.Checks.{marked, first_differs, second_differs, record_unmarked, record_large, record_low}
 use Rattle.record.proofs.block.Block.read.Goals as goal

@@ -3,7 +3,6 @@
 use native.Mathlib.Omega.{arith}
 use lib.ListN.{take, length-set, length-take, length-drop}
 use lib.Seq.{length-take-le}
-use borrow.Author.Rules.{rules}
 use Rattle.record.proofs.Stores.{put_record}
 use Rattle.record.proofs.block.Block.write.Goals as goal
 

@@ -1,5 +1,4 @@
 -- Each field is read from the bytes where the paper has it.
-use borrow.Author.Rules.{rules}
 use Rattle.paper.specs.Diff.{head_of}
 use Rattle.record.proofs.head.Head.of.Goals as goal
 

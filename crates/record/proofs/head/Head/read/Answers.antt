@@ -1,6 +1,5 @@
 -- The checks come in the paper's order, each as one test; what passes them is checked as a head.
 use mathlib.Core.Path.{ap, ◌∙◌}
-use borrow.Author.Rules.{rules}
 use borrow.Author.Tests.{lt-ltb, le-ltb}
 use Rattle.paper.specs.Diff.{read_head, check_head}
 use Rattle.record.proofs.Checks.{marked, first_differs, second_differs}

@@ -1,7 +1,6 @@
 -- Four bytes and three numbers are put one after the other: together they are the head, put where the slice opens.
 use native.Mathlib.Omega.{arith}
 use lib.ListN.{length-set}
-use borrow.Author.Rules.{rules}
 use Rattle.record.specs.Heads.{head}
 use Rattle.record.proofs.Stores.{put_head}
 use Rattle.record.proofs.head.Head.write.Goals as goal

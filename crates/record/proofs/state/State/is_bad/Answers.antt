@@ -1,7 +1,6 @@
 -- `State::is_bad` meets its contract: a gid that is too large is bad whatever the kind, and where none is, what is left is the kind's own rule.
 use mathlib.Core.Path.{sym, ap}
 use native.Mathlib.Omega.{arith}
-use borrow.Author.Rules.{rules}
 use Rattle.record.specs.States.{kind_number}
 use Rattle.record.proofs.StateLaws.{bad_if, settled_apart, settled_order, span_turned, span_order, pair_turned, pair_apart}
 use Rattle.record.proofs.state.State.is_bad.Goals as goal

@@ -1,5 +1,4 @@
 -- `State::is_clean` meets its contract: the kind's number is 0 for the settled ones alone, and of those the test is of b against e.
-use borrow.Author.Rules.{rules}
 use Rattle.paper.specs.State.{is_clean}
 use Rattle.record.proofs.state.State.is_clean.Goals as goal
 

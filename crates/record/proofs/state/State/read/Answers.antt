@@ -1,7 +1,6 @@
 -- `State::read` meets its contract: each check refuses what `bad_record` refuses, and past them all the values that were read are the record's own.
 use mathlib.Core.Path.{sym, ◌∙◌}
 use native.Mathlib.Omega.{arith}
-use borrow.Author.Rules.{rules}
 use borrow.Author.Tests.{eq-eqb, ne_eqb}
 use Rattle.paper.specs.Number.{opens}
 use Rattle.paper.specs.State.{bad_record, read_state}

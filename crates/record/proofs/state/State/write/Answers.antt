@@ -2,7 +2,6 @@
 use mathlib.Core.Path.{refl, sym, ◌∙◌}
 use native.Mathlib.Omega.{arith}
 use lib.ListN.{length-set}
-use borrow.Author.Rules.{rules}
 use Rattle.paper.specs.Answer.{comes_back, over}
 use Rattle.record.proofs.StateLaws.{write_bad, write_short, write_answers, write_over}
 use Rattle.record.proofs.state.State.write.Goals as goal
