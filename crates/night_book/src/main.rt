@@ -8,21 +8,24 @@ mod plans;
 mod print;
 mod volumes;
 
-fn main() {
-    decisions::rows();
-    decisions::lags();
-    volumes::applies();
-    volumes::runs();
-    volumes::runs_at_the_end();
-    volumes::run_outside();
-    volumes::views();
-    merges::merges();
-    merges::merge_edges();
-    merges::merge_ends();
-    merges::compares();
-    merges::odd_compares();
-    merges::ragged_compare();
-    plans::rows();
-    plans::ends();
-    plans::bad();
+use std::io;
+
+fn main(rt: HostRuntime) -> io::Result<()> {
+    decisions::rows(&rt)?;
+    decisions::lags(&rt)?;
+    volumes::applies(&rt)?;
+    volumes::runs(&rt)?;
+    volumes::runs_at_the_end(&rt)?;
+    volumes::run_outside(&rt)?;
+    volumes::views(&rt)?;
+    merges::merges(&rt)?;
+    merges::merge_edges(&rt)?;
+    merges::merge_ends(&rt)?;
+    merges::compares(&rt)?;
+    merges::odd_compares(&rt)?;
+    merges::ragged_compare(&rt)?;
+    plans::rows(&rt)?;
+    plans::ends(&rt)?;
+    plans::bad(&rt)?;
+    Ok(())
 }

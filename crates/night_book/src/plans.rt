@@ -5,6 +5,7 @@ use plan::planning::PlanSaid;
 use plan::shelf::Shelf;
 use record::head::Head;
 use record::state::State;
+use std::io;
 
 // An entry of a shelf.
 fn entry(kind: u8, p: u64, q: u64) -> Head {
@@ -47,86 +48,94 @@ fn night() -> Shelf {
 }
 
 // The plan from a state to a target: its length, its first four places, and the count of the shelf that it keeps.
-fn planned(name: &[u8], on: Shelf, s: State, target: u64) {
+fn planned(rt: &impl Print, name: &str, on: Shelf, s: State, target: u64) -> io::Result<()> {
     let answer = planning::plan_restore(on, &make::state(s), target);
     let said = answer.said;
     let places = answer.places;
     let kept = answer.shelf;
-    print::text(name);
+    print::text(rt, name)?;
     match said {
         PlanSaid::Done => {
-            print::text(b": length ");
+            print::text(rt, ": length ")?;
         }
         PlanSaid::No(r) => {
-            print::text(b": no ");
-            print::number(r.number() as u64);
-            print::text(b" length ");
+            print::text(rt, ": no ")?;
+            print::number(rt, r.number() as u64)?;
+            print::text(rt, " length ")?;
         }
     }
-    print::number(answer.length as u64);
-    print::text(b" places ");
-    print::number(places[0] as u64);
-    print::text(b",");
-    print::number(places[1] as u64);
-    print::text(b",");
-    print::number(places[2] as u64);
-    print::text(b",");
-    print::number(places[3] as u64);
-    print::text(b" kept ");
-    print::number(kept.count as u64);
-    print::end();
+    print::number(rt, answer.length as u64)?;
+    print::text(rt, " places ")?;
+    print::number(rt, places[0] as u64)?;
+    print::text(rt, ",")?;
+    print::number(rt, places[1] as u64)?;
+    print::text(rt, ",")?;
+    print::number(rt, places[2] as u64)?;
+    print::text(rt, ",")?;
+    print::number(rt, places[3] as u64)?;
+    print::text(rt, " kept ")?;
+    print::number(rt, kept.count as u64)?;
+    print::end(rt)
 }
 
-pub fn rows() {
-    planned(b"clean 0 to 9", night(), State::clean(0), 9);
-    planned(b"clean 5 to 9", night(), State::clean(5), 9);
-    planned(b"dirty 0,0,5 to 9", night(), State::settled(0, 5), 9);
-    planned(b"clean 0 to 5", night(), State::clean(0), 5);
-    planned(b"clean 9 to 9", night(), State::clean(9), 9);
-    planned(b"clean 9 to 4, behind", night(), State::clean(9), 4);
+pub fn rows(rt: &impl Print) -> io::Result<()> {
+    planned(rt, "clean 0 to 9", night(), State::clean(0), 9)?;
+    planned(rt, "clean 5 to 9", night(), State::clean(5), 9)?;
+    planned(rt, "dirty 0,0,5 to 9", night(), State::settled(0, 5), 9)?;
+    planned(rt, "clean 0 to 5", night(), State::clean(0), 5)?;
+    planned(rt, "clean 9 to 9", night(), State::clean(9), 9)?;
+    planned(rt, "clean 9 to 4, behind", night(), State::clean(9), 4)?;
     planned(
-        b"dirty 0,0,9 to 9, e at the target",
+        rt,
+        "dirty 0,0,9 to 9, e at the target",
         night(),
         State::settled(0, 9),
         9,
-    );
+    )?;
     planned(
-        b"dirty 0,0,10 to 9, e beyond the target",
+        rt,
+        "dirty 0,0,10 to 9, e beyond the target",
         night(),
         State::settled(0, 10),
         9,
-    );
+    )?;
     planned(
-        b"pair 4,9,9 to 9, by its compared diff",
+        rt,
+        "pair 4,9,9 to 9, by its compared diff",
         night(),
         State::pair(4, 9),
         9,
-    );
-    planned(b"pair 4,8,8 to 9", night(), State::pair(4, 8), 9);
+    )?;
+    planned(rt, "pair 4,8,8 to 9", night(), State::pair(4, 8), 9)?;
+    Ok(())
 }
 
-pub fn ends() {
+pub fn ends(rt: &impl Print) -> io::Result<()> {
     let top: u64 = 9_223_372_036_854_775_807;
     planned(
-        b"no entry, clean 7 to 7",
+        rt,
+        "no entry, clean 7 to 7",
         opening(entry(0, 0, 4), entry(0, 4, 9), 0),
         State::clean(7),
         7,
-    );
+    )?;
     planned(
-        b"no entry, clean 0 to 9",
+        rt,
+        "no entry, clean 0 to 9",
         opening(entry(0, 0, 4), entry(0, 4, 9), 0),
         State::clean(0),
         9,
-    );
+    )?;
     planned(
-        b"two places filled, one counted",
+        rt,
+        "two places filled, one counted",
         opening(entry(0, 0, 4), entry(0, 4, 9), 1),
         State::clean(0),
         9,
-    );
+    )?;
     planned(
-        b"the same entry twice",
+        rt,
+        "the same entry twice",
         shelf_of(
             entry(0, 0, 9),
             entry(0, 0, 9),
@@ -136,46 +145,66 @@ pub fn ends() {
         ),
         State::clean(0),
         9,
-    );
-    planned(b"96 entries", full(entry(0, 0, 9), 96), State::clean(0), 9);
-    planned(b"97 entries", full(entry(0, 0, 9), 97), State::clean(0), 9);
+    )?;
     planned(
-        b"up to the largest gid",
+        rt,
+        "96 entries",
+        full(entry(0, 0, 9), 96),
+        State::clean(0),
+        9,
+    )?;
+    planned(
+        rt,
+        "97 entries",
+        full(entry(0, 0, 9), 97),
+        State::clean(0),
+        9,
+    )?;
+    planned(
+        rt,
+        "up to the largest gid",
         full(entry(0, 0, top), 96),
         State::clean(0),
         top,
-    );
+    )?;
     planned(
-        b"target 2^63",
+        rt,
+        "target 2^63",
         full(entry(0, 0, 9), 96),
         State::clean(0),
         9_223_372_036_854_775_808,
-    );
+    )?;
+    Ok(())
 }
 
-pub fn bad() {
+pub fn bad(rt: &impl Print) -> io::Result<()> {
     planned(
-        b"an entry of kind 2",
+        rt,
+        "an entry of kind 2",
         opening(entry(0, 0, 4), entry(2, 4, 9), 4),
         State::clean(0),
         9,
-    );
+    )?;
     planned(
-        b"a bad entry past the count",
+        rt,
+        "a bad entry past the count",
         opening(entry(0, 0, 9), entry(2, 4, 9), 1),
         State::clean(0),
         9,
-    );
+    )?;
     planned(
-        b"a state against its kind",
+        rt,
+        "a state against its kind",
         night(),
         State::settled(9, 7),
         9,
-    );
+    )?;
     planned(
-        b"97 entries and a state against its kind",
+        rt,
+        "97 entries and a state against its kind",
         full(entry(0, 0, 9), 97),
         State::settled(9, 7),
         9,
-    );
+    )?;
+    Ok(())
 }

@@ -1,43 +1,43 @@
 // Rows of output: a name, then numbers.
-use libc::STDOUT_FILENO;
+use std::io;
 use volume::decision::{Done, While};
 
-pub fn text(t: &[u8]) {
-    io::write_all(STDOUT_FILENO, t);
+pub fn text(rt: &impl Print, t: &str) -> io::Result<()> {
+    print!(rt; "{t}")
 }
 
-pub fn number(n: u64) {
-    io::print_decimal(STDOUT_FILENO, n);
+pub fn number(rt: &impl Print, n: u64) -> io::Result<()> {
+    print!(rt; "{n}")
 }
 
-pub fn byte(b: u8) {
-    number(b as u64);
+pub fn byte(rt: &impl Print, b: u8) -> io::Result<()> {
+    number(rt, b as u64)
 }
 
-pub fn end() {
-    text(b"\n");
+pub fn end(rt: &impl Print) -> io::Result<()> {
+    text(rt, "\n")
 }
 
 // Three gids.
-fn gids(b: u64, t: u64, e: u64) {
-    text(b" ");
-    number(b);
-    text(b",");
-    number(t);
-    text(b",");
-    number(e);
+fn gids(rt: &impl Print, b: u64, t: u64, e: u64) -> io::Result<()> {
+    text(rt, " ")?;
+    number(rt, b)?;
+    text(rt, ",")?;
+    number(rt, t)?;
+    text(rt, ",")?;
+    number(rt, e)
 }
 
-pub fn while_state(w: While) {
+pub fn while_state(rt: &impl Print, w: While) -> io::Result<()> {
     let kind = w.kind;
-    text(b"while kind ");
-    number(kind.number() as u64);
-    gids(w.b, w.t, w.e);
+    text(rt, "while kind ")?;
+    number(rt, kind.number() as u64)?;
+    gids(rt, w.b, w.t, w.e)
 }
 
-pub fn done_state(d: Done) {
+pub fn done_state(rt: &impl Print, d: Done) -> io::Result<()> {
     let kind = d.kind;
-    text(b"done kind ");
-    number(kind.number() as u64);
-    gids(d.b, d.t, d.e);
+    text(rt, "done kind ")?;
+    number(rt, kind.number() as u64)?;
+    gids(rt, d.b, d.t, d.e)
 }

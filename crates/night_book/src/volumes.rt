@@ -1,142 +1,161 @@
 // Applies, runs and read-throughs on an image of three blocks.
 use crate::{make, print};
 use record::state::State;
+use std::io;
 use volume::doing::{Applied, Ran};
 use volume::{doing, view};
 
 // The first byte of each block.
-fn firsts(img: &[u8; 1536]) {
-    print::text(b" blocks ");
-    print::byte(img[0]);
-    print::text(b",");
-    print::byte(img[512]);
-    print::text(b",");
-    print::byte(img[1024]);
-    print::end();
+fn firsts(rt: &impl Print, img: &[u8; 1536]) -> io::Result<()> {
+    print::text(rt, " blocks ")?;
+    print::byte(rt, img[0])?;
+    print::text(rt, ",")?;
+    print::byte(rt, img[512])?;
+    print::text(rt, ",")?;
+    print::byte(rt, img[1024])?;
+    print::end(rt)
 }
 
 // Applies d to an image of ones at a state.
-fn applied(name: &[u8], d: &[u8], s: State) {
+fn applied(rt: &impl Print, name: &str, d: &[u8], s: State) -> io::Result<()> {
     let mut img = [1u8; 1536];
     let answer = doing::apply(d, &make::state(s), &mut img);
-    print::text(name);
-    print::text(b": ");
+    print::text(rt, name)?;
+    print::text(rt, ": ")?;
     match answer {
         Applied::Done(e) => {
-            print::done_state(e);
+            print::done_state(rt, e)?;
         }
         Applied::No(r) => {
-            print::number(r.number() as u64);
+            print::number(rt, r.number() as u64)?;
         }
     }
-    firsts(&img);
+    firsts(rt, &img)
 }
 
-pub fn applies() {
+pub fn applies(rt: &impl Print) -> io::Result<()> {
     applied(
-        b"apply {0: 7, 2: 9}",
+        rt,
+        "apply {0: 7, 2: 9}",
         &make::two(5, 9, 0, 7, 2, 9),
         State::clean(7),
-    );
+    )?;
     applied(
-        b"apply {0: 7, 3: 9}, one outside",
+        rt,
+        "apply {0: 7, 3: 9}, one outside",
         &make::two(5, 9, 0, 7, 3, 9),
         State::clean(7),
-    );
+    )?;
     applied(
-        b"apply {1: 7} to a dirty volume",
+        rt,
+        "apply {1: 7} to a dirty volume",
         &make::one(0, 4, 8, 1, 7),
         State::settled(4, 10),
-    );
+    )?;
     applied(
-        b"apply compared {1: 7} to a dirty volume",
+        rt,
+        "apply compared {1: 7} to a dirty volume",
         &make::one(1, 4, 8, 1, 7),
         State::settled(4, 10),
-    );
-    applied(b"apply nothing", &make::head(0, 5, 9), State::clean(7));
-    applied(b"apply a gap", &make::one(0, 8, 9, 1, 7), State::clean(7));
+    )?;
+    applied(rt, "apply nothing", &make::head(0, 5, 9), State::clean(7))?;
+    applied(
+        rt,
+        "apply a gap",
+        &make::one(0, 8, 9, 1, 7),
+        State::clean(7),
+    )?;
+    Ok(())
 }
 
 // Runs k records of d from record i on, into an image of ones.
-fn ran(name: &[u8], d: &[u8], i: usize, k: usize) {
+fn ran(rt: &impl Print, name: &str, d: &[u8], i: usize, k: usize) -> io::Result<()> {
     let mut img = [1u8; 1536];
     let answer = doing::run(d, &mut img, i, k);
-    print::text(name);
-    print::text(b": ");
+    print::text(rt, name)?;
+    print::text(rt, ": ")?;
     match answer {
         Ran::Next(n) => {
-            print::text(b"next ");
-            print::number(n as u64);
+            print::text(rt, "next ")?;
+            print::number(rt, n as u64)?;
         }
         Ran::No(r) => {
-            print::number(r.number() as u64);
+            print::number(rt, r.number() as u64)?;
         }
     }
-    firsts(&img);
+    firsts(rt, &img)
 }
 
-pub fn runs() {
+pub fn runs(rt: &impl Print) -> io::Result<()> {
     let d = make::two(5, 9, 0, 7, 2, 9);
-    ran(b"run 0 1", &d, 0, 1);
-    ran(b"run 1 1", &d, 1, 1);
-    ran(b"run 0 2", &d, 0, 2);
-    ran(b"run 0 0", &d, 0, 0);
+    ran(rt, "run 0 1", &d, 0, 1)?;
+    ran(rt, "run 1 1", &d, 1, 1)?;
+    ran(rt, "run 0 2", &d, 0, 2)?;
+    ran(rt, "run 0 0", &d, 0, 0)?;
+    Ok(())
 }
 
-pub fn runs_at_the_end() {
+pub fn runs_at_the_end(rt: &impl Print) -> io::Result<()> {
     let d = make::two(5, 9, 0, 7, 2, 9);
-    ran(b"run 2 5", &d, 2, 5);
-    ran(b"run 3 0", &d, 3, 0);
+    ran(rt, "run 2 5", &d, 2, 5)?;
+    ran(rt, "run 3 0", &d, 3, 0)?;
     ran(
-        b"run 1 and all that can be asked",
+        rt,
+        "run 1 and all that can be asked",
         &d,
         1,
         18_446_744_073_709_551_615,
-    );
+    )?;
     ran(
-        b"run from the largest number",
+        rt,
+        "run from the largest number",
         &d,
         18_446_744_073_709_551_615,
         1,
-    );
+    )?;
+    Ok(())
 }
 
-pub fn run_outside() {
+pub fn run_outside(rt: &impl Print) -> io::Result<()> {
     ran(
-        b"run {0, 3}, one outside",
+        rt,
+        "run {0, 3}, one outside",
         &make::two(5, 9, 0, 7, 3, 9),
         0,
         1,
-    );
+    )?;
+    Ok(())
 }
 
 // Reads block a through d, over an image of ones.
-fn seen(name: &[u8], d: &[u8], a: usize) {
+fn seen(rt: &impl Print, name: &str, d: &[u8], a: usize) -> io::Result<()> {
     let img = [1u8; 1536];
     let mut said = 0u32;
     let v = view::read_through(d, &img, a, &mut said);
-    print::text(name);
-    print::text(b": ");
-    print::number(said as u64);
-    print::text(b" bytes ");
-    print::number(v.len() as u64);
+    print::text(rt, name)?;
+    print::text(rt, ": ")?;
+    print::number(rt, said as u64)?;
+    print::text(rt, " bytes ")?;
+    print::number(rt, v.len() as u64)?;
     if 0 < v.len() {
-        print::text(b" first ");
-        print::byte(v[0]);
+        print::text(rt, " first ")?;
+        print::byte(rt, v[0])?;
     }
-    print::end();
+    print::end(rt)
 }
 
-pub fn views() {
+pub fn views(rt: &impl Print) -> io::Result<()> {
     let d = make::two(5, 9, 0, 7, 2, 9);
-    seen(b"block 0 through {0: 7, 2: 9}", &d, 0);
-    seen(b"block 1 through {0: 7, 2: 9}", &d, 1);
-    seen(b"block 2 through {0: 7, 2: 9}", &d, 2);
-    seen(b"block 3 through {0: 7, 2: 9}", &d, 3);
+    seen(rt, "block 0 through {0: 7, 2: 9}", &d, 0)?;
+    seen(rt, "block 1 through {0: 7, 2: 9}", &d, 1)?;
+    seen(rt, "block 2 through {0: 7, 2: 9}", &d, 2)?;
+    seen(rt, "block 3 through {0: 7, 2: 9}", &d, 3)?;
     seen(
-        b"block 0 through {0: 7, 3: 9}",
+        rt,
+        "block 0 through {0: 7, 3: 9}",
         &make::two(5, 9, 0, 7, 3, 9),
         0,
-    );
-    seen(b"block 1 through a diff cut short", &d[0..1059], 1);
+    )?;
+    seen(rt, "block 1 through a diff cut short", &d[0..1059], 1)?;
+    Ok(())
 }

@@ -5,12 +5,15 @@ mod diffs;
 mod print;
 mod states;
 
-fn main() {
-    diffs::heads();
-    diffs::lengths();
-    diffs::records();
-    states::reading();
-    states::kinds();
-    states::writing();
-    states::images();
+use std::io;
+
+fn main(rt: HostRuntime) -> io::Result<()> {
+    diffs::heads(&rt)?;
+    diffs::lengths(&rt)?;
+    diffs::records(&rt)?;
+    states::reading(&rt)?;
+    states::kinds(&rt)?;
+    states::writing(&rt)?;
+    states::images(&rt)?;
+    Ok(())
 }

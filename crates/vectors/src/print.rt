@@ -1,9 +1,6 @@
 // One row of output.
-use libc::STDOUT_FILENO;
+use std::io;
 
-pub fn row(name: &[u8], number: u32) {
-    io::write_all(STDOUT_FILENO, name);
-    io::write_all(STDOUT_FILENO, b": ");
-    io::print_decimal(STDOUT_FILENO, number as u64);
-    io::write_all(STDOUT_FILENO, b"\n");
+pub fn row(rt: &impl Print, name: &str, number: u32) -> io::Result<()> {
+    println!(rt; "{name}: {number}")
 }

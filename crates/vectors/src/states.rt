@@ -5,6 +5,7 @@ use crate::print::row;
 use record::image;
 use record::image::ImageSaid;
 use record::state::{Kind, State, StateSaid, Written};
+use std::io;
 
 // The number that reading r as a state answers.
 fn read(r: &[u8]) -> u32 {
@@ -45,68 +46,76 @@ fn changed(at: usize, byte: u8) -> [u8; 28]
     r
 }
 
-pub fn reading() {
+pub fn reading(rt: &impl Print) -> io::Result<()> {
     let r = small(0, 7, 7, 7);
-    row(b"state clean 7", read(&r));
-    row(b"state of 27 bytes", read(&r[0..27]));
-    row(b"state of no byte", read(&r[0..0]));
+    row(rt, "state clean 7", read(&r))?;
+    row(rt, "state of 27 bytes", read(&r[0..27]))?;
+    row(rt, "state of no byte", read(&r[0..0]))?;
     let long = [0u8; 29];
-    row(b"state of 29 bytes", read(&long));
-    row(b"state with a diff's mark", read(&changed(1, 0x44)));
-    row(b"state with a wrong first byte", read(&changed(0, 0x56)));
-    row(b"state with spare 1", read(&changed(3, 1)));
-    row(b"state with e 2^63 and more", read(&changed(27, 0x80)));
-    row(b"state with e just below 2^63", read(&changed(27, 0x7f)));
-    row(b"state with b 2^63 and more", read(&changed(11, 0x80)));
+    row(rt, "state of 29 bytes", read(&long))?;
+    row(rt, "state with a diff's mark", read(&changed(1, 0x44)))?;
+    row(rt, "state with a wrong first byte", read(&changed(0, 0x56)))?;
+    row(rt, "state with spare 1", read(&changed(3, 1)))?;
+    row(rt, "state with e 2^63 and more", read(&changed(27, 0x80)))?;
+    row(rt, "state with e just below 2^63", read(&changed(27, 0x7f)))?;
+    row(rt, "state with b 2^63 and more", read(&changed(11, 0x80)))?;
+    Ok(())
 }
 
-pub fn kinds() {
-    row(b"settled 4,4,10", read(&small(0, 4, 4, 10)));
-    row(b"settled 4,4,4", read(&small(0, 4, 4, 4)));
-    row(b"settled 4,4,3", read(&small(0, 4, 4, 3)));
-    row(b"settled 4,5,10", read(&small(0, 4, 5, 10)));
-    row(b"settled 4,3,10", read(&small(0, 4, 3, 10)));
-    row(b"span 4,8,10", read(&small(1, 4, 8, 10)));
-    row(b"span 4,8,8", read(&small(1, 4, 8, 8)));
-    row(b"span 4,8,7", read(&small(1, 4, 8, 7)));
-    row(b"span 4,4,10", read(&small(1, 4, 4, 10)));
-    row(b"span 4,5,10", read(&small(1, 4, 5, 10)));
-    row(b"pair 7,9,9", read(&small(2, 7, 9, 9)));
-    row(b"pair 7,9,10", read(&small(2, 7, 9, 10)));
-    row(b"pair 7,9,8", read(&small(2, 7, 9, 8)));
-    row(b"pair 7,7,7", read(&small(2, 7, 7, 7)));
-    row(b"kind 3", read(&small(3, 7, 9, 9)));
-    row(b"kind 255", read(&small(255, 7, 9, 9)));
+pub fn kinds(rt: &impl Print) -> io::Result<()> {
+    row(rt, "settled 4,4,10", read(&small(0, 4, 4, 10)))?;
+    row(rt, "settled 4,4,4", read(&small(0, 4, 4, 4)))?;
+    row(rt, "settled 4,4,3", read(&small(0, 4, 4, 3)))?;
+    row(rt, "settled 4,5,10", read(&small(0, 4, 5, 10)))?;
+    row(rt, "settled 4,3,10", read(&small(0, 4, 3, 10)))?;
+    row(rt, "span 4,8,10", read(&small(1, 4, 8, 10)))?;
+    row(rt, "span 4,8,8", read(&small(1, 4, 8, 8)))?;
+    row(rt, "span 4,8,7", read(&small(1, 4, 8, 7)))?;
+    row(rt, "span 4,4,10", read(&small(1, 4, 4, 10)))?;
+    row(rt, "span 4,5,10", read(&small(1, 4, 5, 10)))?;
+    row(rt, "pair 7,9,9", read(&small(2, 7, 9, 9)))?;
+    row(rt, "pair 7,9,10", read(&small(2, 7, 9, 10)))?;
+    row(rt, "pair 7,9,8", read(&small(2, 7, 9, 8)))?;
+    row(rt, "pair 7,7,7", read(&small(2, 7, 7, 7)))?;
+    row(rt, "kind 3", read(&small(3, 7, 9, 9)))?;
+    row(rt, "kind 255", read(&small(255, 7, 9, 9)))?;
+    Ok(())
 }
 
-pub fn writing() {
+pub fn writing(rt: &impl Print) -> io::Result<()> {
     let mut out = [0u8; 29];
     row(
-        b"write clean 7 into 29 bytes",
+        rt,
+        "write clean 7 into 29 bytes",
         written(State::clean(7), &mut out),
-    );
-    row(b"read what was written", read(&out[0..28]));
+    )?;
+    row(rt, "read what was written", read(&out[0..28]))?;
     let mut exact = [0u8; 28];
     row(
-        b"write pair 7,9,9 into 28 bytes",
+        rt,
+        "write pair 7,9,9 into 28 bytes",
         written(State::pair(7, 9), &mut exact),
-    );
-    row(b"read what was written", read(&exact));
+    )?;
+    row(rt, "read what was written", read(&exact))?;
     let mut few = [0u8; 27];
     row(
-        b"write clean 7 into 27 bytes",
+        rt,
+        "write clean 7 into 27 bytes",
         written(State::clean(7), &mut few),
-    );
+    )?;
     row(
-        b"write settled 9,9,7 into 28 bytes",
+        rt,
+        "write settled 9,9,7 into 28 bytes",
         written(State::settled(9, 7), &mut exact),
-    );
+    )?;
     row(
-        b"write settled 9,9,7 into 27 bytes",
+        rt,
+        "write settled 9,9,7 into 27 bytes",
         written(State::settled(9, 7), &mut few),
-    );
+    )?;
     row(
-        b"write span 4,8,10 into 28 bytes",
+        rt,
+        "write span 4,8,10 into 28 bytes",
         written(
             State {
                 kind: Kind::Span,
@@ -116,9 +125,10 @@ pub fn writing() {
             },
             &mut exact,
         ),
-    );
+    )?;
     row(
-        b"write span 8,8,10 into 28 bytes",
+        rt,
+        "write span 8,8,10 into 28 bytes",
         written(
             State {
                 kind: Kind::Span,
@@ -128,16 +138,19 @@ pub fn writing() {
             },
             &mut exact,
         ),
-    );
+    )?;
     row(
-        b"write clean 2^63 into 28 bytes",
+        rt,
+        "write clean 2^63 into 28 bytes",
         written(State::clean(9_223_372_036_854_775_808), &mut exact),
-    );
+    )?;
     row(
-        b"write the largest clean state",
+        rt,
+        "write the largest clean state",
         written(State::clean(9_223_372_036_854_775_807), &mut exact),
-    );
-    row(b"read what was written", read(&exact));
+    )?;
+    row(rt, "read what was written", read(&exact))?;
+    Ok(())
 }
 
 // The number that the image rule answers.
@@ -149,11 +162,12 @@ fn image_of(img: &[u8]) -> u32 {
     }
 }
 
-pub fn images() {
+pub fn images(rt: &impl Print) -> io::Result<()> {
     let two = [0u8; 1024];
-    row(b"image of no byte", image_of(&two[0..0]));
-    row(b"image of 511 bytes", image_of(&two[0..511]));
-    row(b"image of 512 bytes", image_of(&two[0..512]));
-    row(b"image of 513 bytes", image_of(&two[0..513]));
-    row(b"image of 1,024 bytes", image_of(&two));
+    row(rt, "image of no byte", image_of(&two[0..0]))?;
+    row(rt, "image of 511 bytes", image_of(&two[0..511]))?;
+    row(rt, "image of 512 bytes", image_of(&two[0..512]))?;
+    row(rt, "image of 513 bytes", image_of(&two[0..513]))?;
+    row(rt, "image of 1,024 bytes", image_of(&two))?;
+    Ok(())
 }
