@@ -12,10 +12,10 @@ use Rattle.paper.specs.Volume.{View}
 use Rattle.record.specs.declared.refusal.Refusal.{Refusal}
 use Rattle.record.specs.declared.head.Head.{Head}
 use Rattle.record.specs.declared.head.HeadSaid.{HeadSaid}
-use Rattle.record.specs.declared.head.HeadSaid.TheVariants as head-said
+use Rattle.record.specs.declared.head.HeadSaid.TheVariants as head_said
 use Rattle.record.specs.declared.state.State.{State}
 use Rattle.record.specs.declared.state.StateSaid.{StateSaid}
-use Rattle.record.specs.declared.state.StateSaid.TheVariants as state-said
+use Rattle.record.specs.declared.state.StateSaid.TheVariants as state_said
 use Rattle.record.specs.declared.state.Written.{Written}
 use Rattle.record.specs.declared.state.Written.TheVariants as written
 use Rattle.record.specs.Refusals.{number_of}
@@ -27,7 +27,7 @@ use Rattle.volume.specs.declared.doing.Ran.TheVariants as ran
 use Rattle.volume.specs.declared.view.Place.{Place}
 use Rattle.volume.specs.declared.view.Place.TheVariants as place
 use Rattle.volume.specs.declared.lag.LagSaid.{LagSaid}
-use Rattle.volume.specs.declared.lag.LagSaid.TheVariants as lag-said
+use Rattle.volume.specs.declared.lag.LagSaid.TheVariants as lag_said
 use Rattle.volume.specs.Writes.{said_run}
 use Rattle.volume.specs.Views.{said_place}
 use Rattle.volume.specs.Lags.{said_lag}
@@ -36,19 +36,19 @@ use Rattle.desk.specs.Rows.{head_row, state_row, wrote_row, view_row, lag_row}
 -- ---- check
 
 module _ (kind p q n : ℕ) (m : Said Diff.Head) (r : HeadSaid) (says : said_head r ≡ m) where
-  pub head_no : (x : Refusal) (k : ℕ) → r ≡ head-said.No x → k ≡ number_of x → (k, kind, p, q, n) ≡ head_row kind p q n m
+  pub head_no : (x : Refusal) (k : ℕ) → r ≡ head_said.No x → k ≡ number_of x → (k, kind, p, q, n) ≡ head_row kind p q n m
   head_no x k e f = rw (← says, e, f) refl
 
-  pub head_yes : (h : Head) → r ≡ head-said.Sound h → (0, h.kind, h.p, h.q, h.n) ≡ head_row kind p q n m
+  pub head_yes : (h : Head) → r ≡ head_said.Sound h → (0, h.kind, h.p, h.q, h.n) ≡ head_row kind p q n m
   head_yes h e = rw (← says, e) refl
 
 -- ---- reading a state
 
 module _ (kind b t e : ℕ) (m : Said Paper.State) (r : StateSaid) (says : said_state r ≡ m) where
-  pub state_no : (x : Refusal) (k : ℕ) → r ≡ state-said.No x → k ≡ number_of x → (k, kind, b, t, e) ≡ state_row kind b t e m
+  pub state_no : (x : Refusal) (k : ℕ) → r ≡ state_said.No x → k ≡ number_of x → (k, kind, b, t, e) ≡ state_row kind b t e m
   state_no x k f g = rw (← says, f, g) refl
 
-  pub state_yes : (s : State) (k : ℕ) → r ≡ state-said.Sound s → k ≡ kind_number s.kind → (0, k, s.b, s.t, s.e) ≡ state_row kind b t e m
+  pub state_yes : (s : State) (k : ℕ) → r ≡ state_said.Sound s → k ≡ kind_number s.kind → (0, k, s.b, s.t, s.e) ≡ state_row kind b t e m
   state_yes s k f g = rw (← says, f, g) refl
 
 -- ---- calls that write
@@ -100,8 +100,8 @@ module _ (slice at : ℕ) (m : Said View) (r : Place) (says : said_place r ≡ m
 -- ---- lag
 
 module _ (gids : ℤ) (m : Said ℤ) (r : LagSaid) (says : said_lag r ≡ m) where
-  pub lag_no : (x : Refusal) (k : ℕ) → r ≡ lag-said.No x → k ≡ number_of x → (k, gids) ≡ lag_row gids m
+  pub lag_no : (x : Refusal) (k : ℕ) → r ≡ lag_said.No x → k ≡ number_of x → (k, gids) ≡ lag_row gids m
   lag_no x k e f = rw (← says, e, f) refl
 
-  pub lag_yes : (v : ℤ) → r ≡ lag-said.Gids v → (0, v) ≡ lag_row gids m
+  pub lag_yes : (v : ℤ) → r ≡ lag_said.Gids v → (0, v) ≡ lag_row gids m
   lag_yes v e = rw (← says, e) refl

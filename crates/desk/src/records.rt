@@ -58,6 +58,7 @@ pub extern "C" fn minnow_read_state(
 }
 
 // "A state is also written out as its record (BadState, then NoRoom)."
+#[tactic(auto, using(crate::proofs::Rows::kind_no))]
 #[unsafe(no_mangle)]
 pub extern "C" fn minnow_write_state(
     kind: u8,

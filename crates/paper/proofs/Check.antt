@@ -31,14 +31,14 @@ pub good_head : {h : Head} → bad_head h ≡ false → GoodHead h
 unfolding bad_head
 good_head {h} e =
     let (e₄, q≤p) = neither _ _ e in
-    let (e₃, big-q) = neither _ _ e₄ in
-    let (e₂, big-p) = neither _ _ e₃ in
+    let (e₃, big_q) = neither _ _ e₄ in
+    let (e₂, big_p) = neither _ _ e₃ in
     let (kind, spare) = neither _ _ e₂ in
     record {
       kind = ltb-false 1 h.kind kind;
       spare = eqb-true h.spare 0 (not-false _ spare);
-      p = ltb-false max_gid h.p big-p;
-      q = ltb-false max_gid h.q big-q;
+      p = ltb-false max_gid h.p big_p;
+      q = ltb-false max_gid h.q big_q;
       grows = leb-false h.q h.p q≤p;
     }
 

@@ -55,9 +55,9 @@ differing_fits old new w long = record { within = λ a c e. (of a c e).0; whole 
       | unlike s n ↦ elim (dec_le (length new) (block_bytes * a)) [
         | yes l ↦ let z : ◌≡◌ {A = ℕ} 0 1 = cc (alike_beyond old new a long l) in absurd (omega arith)
         | no l ↦
-            let c-is : c ≡ block new a = cc in
+            let c_is : c ≡ block new a = cc in
             let inside : block_bytes * a + block_bytes ≤ length new = omega arith in
-            (omega arith, rw c-is (block_whole new a inside))
+            (omega arith, rw c_is (block_whole new a inside))
       ]
     ]
 

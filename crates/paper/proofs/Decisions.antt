@@ -53,7 +53,7 @@ why_back h s (log c) = rw c
 why_back h s (from_clean c p y) = rw (c, eq-eqb _ _ p, y)
 why_back h s (from_pair c p k q) = rw (c, eq-eqb _ _ p, eq-eqb s.kind 2 k, eq-eqb h.q s.t q, or-true)
 
--- an answer of decide-on is the two further states, and rules 11 to 14 passed
+-- an answer of `decide_on` is the two further states, and rules 11 to 14 passed
 pub record Decided (h : Head) (s : State) (f : Further) : Type 0 where
   pub accepted : Accepted h s
   pub gives : f ≡ further h s

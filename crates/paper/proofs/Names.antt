@@ -36,8 +36,8 @@ seek_sound {j} d a i (suc k) e = elim (ℕ_discrete (address_of (rest d i)) a) [
       let e' : some i ≡ some j = rw (eq-eqb (address_of (rest d i)) a here) at e in
       let same : i ≡ j = cc in
       record { from = omega arith; below = omega arith; address = rw same at here }
-  | no not-here ↦
-      let s = seek_sound d a (suc i) k (rw (ne_eqb (address_of (rest d i)) a not-here) at e) in
+  | no not_here ↦
+      let s = seek_sound d a (suc i) k (rw (ne_eqb (address_of (rest d i)) a not_here) at e) in
       record { from = omega arith; below = omega arith; address = s.address }
 ]
 
@@ -61,9 +61,9 @@ none_sought d a i (suc k) e = elim (ℕ_discrete (address_of (rest d i)) a) [
       let e' : some i ≡ none = rw (eq-eqb (address_of (rest d i)) a here) at e in
       let z : ◌≡◌ {A = ℕ} 0 1 = cc in
       absurd (omega arith)
-  | no not-here ↦
-      from_first (λ j. address_of (rest d j) ≡ a → ⊥) i k not-here
-      (none_sought d a (suc i) k (rw (ne_eqb (address_of (rest d i)) a not-here) at e))
+  | no not_here ↦
+      from_first (λ j. address_of (rest d j) ≡ a → ⊥) i k not_here
+      (none_sought d a (suc i) k (rw (ne_eqb (address_of (rest d i)) a not_here) at e))
 ]
 
 -- where no record has the address, nothing is found
@@ -109,7 +109,7 @@ named_by_here d i k a here = rw (eq-eqb (address_of (rest d i)) a here)
 -- any other address is named by the records after it
 pub named_by_later : (d : List ℕ) (i k a : ℕ) → (address_of (rest d i) ≡ a → ⊥) → named_by d i (suc k) a ≡ named_by d (suc i) k a
 unfolding named_by seek
-named_by_later d i k a not-here = rw (ne_eqb (address_of (rest d i)) a not-here)
+named_by_later d i k a not_here = rw (ne_eqb (address_of (rest d i)) a not_here)
 
 -- ---- maps
 
@@ -231,7 +231,7 @@ module _ {d : List ℕ} {h : Head} (s : Sound d h) where
 
   -- the last record decides
   pub outside_by_last : (m : ℕ) → 0 < h.n → names_outside d 0 h.n m ≡ leb m (address_of (rest d (h.n - 1)))
-  outside_by_last m some-record =
+  outside_by_last m some_record =
       same_test _ _
       (λ e. lt-leb m _ ((outside_means d h.n m).0 e (h.n - 1) (omega arith)))
       (λ e. (outside_means d h.n m).1 λ i l.

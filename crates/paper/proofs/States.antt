@@ -45,7 +45,7 @@ fits_back s (is_span k t e) = rw (ne_eqb s.kind 0 (omega arith), eq-eqb _ _ k, l
 fits_back s (is_pair k t e) =
     rw (ne_eqb s.kind 0 (omega arith), ne_eqb s.kind 1 (omega arith), eq-eqb _ _ k, lt-ltb _ _ t, eq-eqb _ _ e)
 
--- bad-state is false exactly for the good ones
+-- `bad_state` is false exactly for the good ones
 pub good_of : (s : State) → bad_state s ≡ false → GoodState s
 unfolding bad_state
 good_of s g =

@@ -102,16 +102,16 @@ module _ (H : History) (h : Head) (s : State) (a : Accepted h s) (good : GoodSta
       go (from_clean c p k) = by_compared c p (was_clean k)
       go (from_pair c p k q) = by_compared c p (same_pair k q)
 
-  module _ (named-map : Map) (names : (b : ℕ) → named-map b ≡ true_map H h b) (img : List ℕ) (t : TrueState H s img) where
-    after_byte : (i : ℕ) → i < length img → AtGid H (get_or (overlay img named-map) i 0) i h.q (max h.q s.e)
-    after_byte i k = rw (overlay_at img named-map i k, names (i / 512)) (new_byte img i (t.bytes i k))
+  module _ (named_map : Map) (names : (b : ℕ) → named_map b ≡ true_map H h b) (img : List ℕ) (t : TrueState H s img) where
+    after_byte : (i : ℕ) → i < length img → AtGid H (get_or (overlay img named_map) i 0) i h.q (max h.q s.e)
+    after_byte i k = rw (overlay_at img named_map i k, names (i / 512)) (new_byte img i (t.bytes i k))
 
     -- finished: Done is true of the image
-    pub done_true : TrueState H (done_state h s) (overlay img named-map)
+    pub done_true : TrueState H (done_state h s) (overlay img named_map)
     unfolding done_state
     done_true = record {
       legal = good_back _ (done_good h s most good);
-      long = overlay_length img named-map ∙ t.long;
+      long = overlay_length img named_map ∙ t.long;
       within = omega (arith, t.within);
       bytes = λ i k.
           let g = after_byte i (rw overlay_length at k) in
@@ -119,7 +119,7 @@ module _ (H : History) (h : Head) (s : State) (a : Accepted h s) (good : GoodSta
     }
 
     -- cut: While is true of any mix
-    pub while_true : (now : List ℕ) → Mixed img (overlay img named-map) now → TrueState H (while_state h s) now
+    pub while_true : (now : List ℕ) → Mixed img (overlay img named_map) now → TrueState H (while_state h s) now
     unfolding while_state
     while_true now m = record { legal = good_back _ (while_good h s most good a); long = m.long ∙ t.long; within = omega (arith, t.within); bytes = mixed_byte }
       where
@@ -132,14 +132,14 @@ module _ (H : History) (h : Head) (s : State) (a : Accepted h s) (good : GoodSta
             before : AtGid H (get_or img i 0) i s.b s.e
             before = of_some_gid f (t.bytes i k')
 
-            after : AtGid H (get_or (overlay img named-map) i 0) i h.q (max h.q s.e)
+            after : AtGid H (get_or (overlay img named_map) i 0) i h.q (max h.q s.e)
             after = after_byte i k'
 
             two : is_pair_while h s ≡ true → get_or now i 0 ≡ get_or img i 0 → OfTwo H (get_or img i 0) i s.b h.q → TrueByte H (while_state h s) now i
             two y e (old x) = of_b (rw y) (e ∙ x)
             two y e (new x) = of_t (rw y) (e ∙ x)
 
-            go : Which (is_pair_while h s) → (get_or now i 0 ≡ get_or img i 0) ⊎ (get_or now i 0 ≡ get_or (overlay img named-map) i 0) → TrueByte H (while_state h s) now i
+            go : Which (is_pair_while h s) → (get_or now i 0 ≡ get_or img i 0) ⊎ (get_or now i 0 ≡ get_or (overlay img named_map) i 0) → TrueByte H (while_state h s) now i
             go (fails n) (inl e) = of_span (rw n (omega arith)) before.gid before.from (omega (arith, before.to)) (e ∙ before.byte)
             go (fails n) (inr e) = of_span (rw n (omega arith)) after.gid (omega (arith, after.from, a.ahead)) after.to (e ∙ after.byte)
             go (holds y) (inl e) = two y e (of_two (pair_from h s a y) (t.bytes i k'))

@@ -46,6 +46,7 @@ impl Plan {
 }
 
 // "A plan checks 18, then each entry in shelf order for 3 and then 4, then 7, 20, 19."
+#[tactic(auto, using(crate::proofs::Answering::full_no))]
 pub fn plan_restore(on: Shelf, saved: &[u8], target: u64) -> Plan
     ensures { Answers on saved.now target result }
 {
@@ -60,6 +61,7 @@ pub fn plan_restore(on: Shelf, saved: &[u8], target: u64) -> Plan
 }
 
 // The checks that are left where the entries have passed.
+#[tactic(auto, using(crate::proofs::Answering::gid_no))]
 fn plan_state(on: Shelf, saved: &[u8], target: u64) -> Plan
     requires { (on.count ≤ 96) × (check_entries (shelf on) 0 on.count ≡ answer tt) }
     ensures { Answers on saved.now target result }

@@ -11,13 +11,13 @@ use Rattle.paper.specs.State as State
 use Rattle.record.specs.declared.refusal.Refusal.{Refusal}
 use Rattle.record.specs.declared.refusal.Refusal.TheVariants.{CutOff, BadMark, BadHead, TooMany, BadOrder, Tail, BadState, BadImage, Outside, BadStart, Behind, Gap, Short, NotExact, Compared, Apart, NoRoom, ShelfFull, NoChain, BadGid}
 use Rattle.record.specs.declared.head.HeadSaid.{HeadSaid}
-use Rattle.record.specs.declared.head.HeadSaid.TheVariants as head-said
+use Rattle.record.specs.declared.head.HeadSaid.TheVariants as head_said
 use Rattle.record.specs.declared.block.BlockSaid.{BlockSaid}
-use Rattle.record.specs.declared.block.BlockSaid.TheVariants as block-said
+use Rattle.record.specs.declared.block.BlockSaid.TheVariants as block_said
 use Rattle.record.specs.declared.state.Kind.{Kind}
 use Rattle.record.specs.declared.state.Kind.TheVariants.{Settled, Span, Pair}
 use Rattle.record.specs.declared.state.StateSaid.{StateSaid}
-use Rattle.record.specs.declared.state.StateSaid.TheVariants as state-said
+use Rattle.record.specs.declared.state.StateSaid.TheVariants as state_said
 use Rattle.record.specs.declared.state.Written.{Written}
 use Rattle.record.specs.declared.state.Written.TheVariants as written
 use Rattle.record.specs.declared.image.ImageSaid.{ImageSaid}
@@ -78,37 +78,37 @@ one_kind = one kind_number kind_at kind_found
 -- ---- what is said
 
 head_from : Said Diff.Head → HeadSaid
-head_from (answer h) = head-said.Sound (record { kind = h.kind; spare = h.spare; p = h.p; q = h.q; n = h.n })
-head_from (refuse k) = head-said.No (refusal_at k)
+head_from (answer h) = head_said.Sound (record { kind = h.kind; spare = h.spare; p = h.p; q = h.q; n = h.n })
+head_from (refuse k) = head_said.No (refusal_at k)
 
 head_found : (r : HeadSaid) → head_from (said_head r) ≡ r
 unfolding head_from
-head_found (head-said.Sound h) = refl
-head_found (head-said.No r) = ap head-said.No (refusal_found r)
+head_found (head_said.Sound h) = refl
+head_found (head_said.No r) = ap head_said.No (refusal_found r)
 
 pub one_head : (r s : HeadSaid) → said_head r ≡ said_head s → r ≡ s
 one_head = one said_head head_from head_found
 
 address_from : Said ℕ → BlockSaid
-address_from (answer a) = block-said.Sound (record { address = a })
-address_from (refuse k) = block-said.No (refusal_at k)
+address_from (answer a) = block_said.Sound (record { address = a })
+address_from (refuse k) = block_said.No (refusal_at k)
 
 address_found : (r : BlockSaid) → address_from (said_address r) ≡ r
 unfolding address_from
-address_found (block-said.Sound b) = refl
-address_found (block-said.No r) = ap block-said.No (refusal_found r)
+address_found (block_said.Sound b) = refl
+address_found (block_said.No r) = ap block_said.No (refusal_found r)
 
 pub one_address : (r s : BlockSaid) → said_address r ≡ said_address s → r ≡ s
 one_address = one said_address address_from address_found
 
 state_from : Said State.State → StateSaid
-state_from (answer s) = state-said.Sound (record { kind = kind_at s.kind; b = s.b; t = s.t; e = s.e })
-state_from (refuse k) = state-said.No (refusal_at k)
+state_from (answer s) = state_said.Sound (record { kind = kind_at s.kind; b = s.b; t = s.t; e = s.e })
+state_from (refuse k) = state_said.No (refusal_at k)
 
 state_found : (r : StateSaid) → state_from (said_state r) ≡ r
 unfolding state_from
-state_found (state-said.Sound s) = λ i. state-said.Sound (record { kind = kind_found s.kind i; b = s.b; t = s.t; e = s.e })
-state_found (state-said.No r) = ap state-said.No (refusal_found r)
+state_found (state_said.Sound s) = λ i. state_said.Sound (record { kind = kind_found s.kind i; b = s.b; t = s.t; e = s.e })
+state_found (state_said.No r) = ap state_said.No (refusal_found r)
 
 pub one_state : (r s : StateSaid) → said_state r ≡ said_state s → r ≡ s
 one_state = one said_state state_from state_found

@@ -31,11 +31,11 @@ more_not_most a b = go (which (leb b a))
 
 -- a state that cannot be good is bad
 pub bad_if : (s : State) → (GoodState s → ⊥) → bad_state s ≡ true
-bad_if s not-Good = go (which (bad_state s))
+bad_if s not_good = go (which (bad_state s))
   where
     go : Which (bad_state s) → bad_state s ≡ true
     go (holds y) = y
-    go (fails n) = absurd (not-Good (good_of s n))
+    go (fails n) = absurd (not_good (good_of s n))
 
 -- where no gid is too large, only the kind is left to go against
 module _ (s : State) (b : s.b ≤ max_gid) (t : s.t ≤ max_gid) (e : s.e ≤ max_gid) where
@@ -124,11 +124,11 @@ pub put_parts : (old x y z : List ℕ) (a b c d : ℕ) (u v w : List ℕ) → le
     → z ≡ put 0 (a ∷ b ∷ c ∷ d ∷ (u ++ v ++ w)) old
 put_parts old x y z a b c d u v w l m h e f g =
     let front : List ℕ = a ∷ b ∷ c ∷ d ∷ [] in
-    let at-12 : length (front ++ u) ≡ 12 = omega arith in
-    let at-20 : length (front ++ u ++ v) ≡ 20 = simp length-append (omega arith) in
+    let at_12 : length (front ++ u) ≡ 12 = omega arith in
+    let at_20 : length (front ++ u ++ v) ≡ 20 = simp length-append (omega arith) in
     let x≡ : x ≡ put 0 (front ++ u) old = e ∙ rw (put_4 old 0 a b c d (omega arith)) (put_put 0 front u old (omega arith)) in
-    let y≡ : y ≡ put 0 (front ++ u ++ v) old = f ∙ rw x≡ (rw at-12 at (put_put 0 (front ++ u) v old (omega arith))) in
-    g ∙ rw y≡ (rw at-20 at (put_put 0 (front ++ u ++ v) w old (omega arith)))
+    let y≡ : y ≡ put 0 (front ++ u ++ v) old = f ∙ rw x≡ (rw at_12 at (put_put 0 (front ++ u) v old (omega arith))) in
+    g ∙ rw y≡ (rw at_20 at (put_put 0 (front ++ u ++ v) w old (omega arith)))
 
 -- bytes put where a slice opens stand before the rest of it
 pub put_first : (bytes old : List ℕ) → put 0 bytes old ≡ bytes ++ drop (length bytes) old

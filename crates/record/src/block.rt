@@ -37,6 +37,7 @@ impl Block {
     }
 
     // One record, "mark before address"; `low` is the lowest address still allowed.
+    #[tactic(auto, using(crate::proofs::Checks::record_large, crate::proofs::Checks::marked))]
     pub fn read(rest: &[u8], low: u32) -> BlockSaid
         requires { 518 ≤ length rest.now }
         ensures { said_address result ≡ check_record rest.now low }

@@ -46,6 +46,7 @@ impl Head {
     }
 
     // The head rules, 3 and then 4.
+    #[tactic(auto, using(crate::proofs::Checks::head_too_many))]
     pub fn check(self) -> HeadSaid
         ensures { said_head result ≡ check_head (head self) }
     {

@@ -15,6 +15,7 @@ pub enum ImageSaid {
 }
 
 // The number of blocks of an image, or BadImage.
+#[tactic(auto, using(crate::proofs::Checks::image_refused, crate::proofs::Checks::long))]
 pub fn check_image(img: &[u8]) -> ImageSaid
     ensures { said_blocks result ≡ check_image img.now }
 {

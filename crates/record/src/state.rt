@@ -143,6 +143,7 @@ impl State {
     }
 
     // A state of any bytes: BadState, or the state.
+    #[tactic(auto, using(crate::proofs::StateLaws::read_no_kind))]
     pub fn read(r: &[u8]) -> StateSaid
         ensures { said_state result ≡ read_state r.now }
     {
@@ -176,6 +177,7 @@ impl State {
     }
 
     // "A state is also written out as its record (BadState, then NoRoom)."
+    #[tactic(auto, using(crate::proofs::StateLaws::write_short), unfolding(paper::specs::Answer::comes_back, paper::specs::Answer::over))]
     pub fn write(self, out: &mut [u8]) -> Written
         ensures answered { said_length result ≡ comes_back (write_state (state self) (length out.old)) }
         ensures leaves { out.new ≡ over out.old (write_state (state self) (length out.old)) }

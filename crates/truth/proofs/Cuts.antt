@@ -28,13 +28,13 @@ pub record Wider (H : History) (h : Head) (w : List ℕ) : Type 0 where
   pub ends : h.q ≤ is_true.head.q
   pub kind : (is_compared is_true.head ≡ false) ⊎ (is_true.head ≡ h)
 
-module _ (H : History) (d : List ℕ) (t : TrueDiff H d) (v : Volume) (true-v : TrueVolume H v) {y : Volume} (c : CutLeaves d v y) where
+module _ (H : History) (d : List ℕ) (t : TrueDiff H d) (v : Volume) (true_v : TrueVolume H v) {y : Volume} (c : CutLeaves d v y) where
   s : State
-  s = true-v.state
+  s = true_v.state
 
   accepted : Accepted t.head s
   unfolding s
-  accepted = (accepted_of H d t v true-v c.decides).0
+  accepted = (accepted_of H d t v true_v c.decides).0
 
   -- the wider diff is accepted at While
   why : (w : List ℕ) (x : Wider H t.head w) → Why x.is_true.head (while_state t.head s)
@@ -70,7 +70,7 @@ module _ (H : History) (d : List ℕ) (t : TrueDiff H d) (v : Volume) (true-v : 
       let a = (decides d v.saved v.image c.decides).applies in
       let whole : check_image y.image ≡ answer a.blocks = same_length_image _ _ c.mixed.long ∙ a.image in
       let m = image_blocks v.image a.image in
-      let long = true-v.holds.long in
+      let long = true_v.holds.long in
       let blocks : a.blocks ≡ H.blocks = omega arith in
       let u = x.is_true in
       let good = good_head (sound u.sound).good in
@@ -84,7 +84,7 @@ module _ (H : History) (d : List ℕ) (t : TrueDiff H d) (v : Volume) (true-v : 
               from = while_state t.head s;
               blocks = a.blocks;
               diff = u.sound;
-              reads = cut_reads H d t v true-v c;
+              reads = cut_reads H d t v true_v c;
               image = whole;
               inside = inside;
               accepted = at_while w x;

@@ -59,10 +59,10 @@ merge_true H d₀ d₁ room {w} t₀ t₁ e =
           log = ap (λ h. h.kind) same;
         }
 
-module _ (H : History) (Given : List ℕ → Type 0) (true-given : (d : List ℕ) → Given d → TrueDiff H d) where
+module _ (H : History) (Given : List ℕ → Type 0) (true_given : (d : List ℕ) → Given d → TrueDiff H d) where
   -- every diff at hand is true
   pub have_true : {d : List ℕ} → Have Given d → TrueDiff H d
-  have_true {d} (given g) = true-given d g
+  have_true {d} (given g) = true_given d g
   have_true (by_merge {first} {second} room x y e) = (merge_true H first second room (have_true x) (have_true y) e).is_true
 
   -- a diff that contains another is wider
@@ -99,17 +99,17 @@ module _ (H : History) (Given : List ℕ → Type 0) (true-given : (d : List ℕ
 
 -- Demand 3
 pub demand_three : DemandThree
-demand_three H Given v x ds true-given true-v story =
-    let true-x = story_true H Given true-given true-v story in
+demand_three H Given v x ds true_given true_v story =
+    let true_x = story_true H Given true_given true_v story in
     record {
-      stays_true = true-x;
+      stays_true = true_x;
       clean_means = λ s r y.
-          let e : true-x.state ≡ s = answer_injective (sym true-x.reads ∙ r) in
-          let t : TrueState H s x.image = rw e at true-x.holds in
+          let e : true_x.state ≡ s = answer_injective (sym true_x.reads ∙ r) in
+          let t : TrueState H s x.image = rw e at true_x.holds in
           let o = ordered s (read_good x.saved r).fits in
           clean_image H s x.image t y (omega (arith, t.within, o.low, o.high));
-      untouched = λ a u. story_untouched H Given true-given a u story;
+      untouched = λ a u. story_untouched H Given true_given a u story;
       goes_on = λ {d} {w} {y} had c k.
-          let t = have_true H Given true-given had in
-          wider_accepted H d t x true-x (cut_leaves t.sound c) w (contains_wider H Given true-given had k);
+          let t = have_true H Given true_given had in
+          wider_accepted H d t x true_x (cut_leaves t.sound c) w (contains_wider H Given true_given had k);
     }

@@ -43,9 +43,9 @@ module _ (H : History) (some_block : 1 ≤ H.blocks) (few : H.blocks ≤ max_blo
       inside a c (fails y) e = let e' : none ≡ some c = rw y at e in let z : ◌≡◌ {A = ℕ} 0 1 = cc in absurd (omega arith)
       inside a c (holds y) e =
           let e' : some (block (H.image q) a) ≡ some c = rw y at e in
-          let c-is : c ≡ block (H.image q) a = cc in
+          let c_is : c ≡ block (H.image q) a = cc in
           let k = written_inside H (q - p) p q a (omega arith) within y in
-          (k, rw c-is (block_whole (H.image q) a (omega (arith, H.long q within))))
+          (k, rw c_is (block_whole (H.image q) a (omega (arith, H.long q within))))
 
   -- a head from p to q is good
   good : (h : Head) → h.kind ≤ 1 → h.spare ≡ 0 → h.p ≡ p → h.q ≡ q → bad_head h ≡ false

@@ -58,52 +58,52 @@ finish_leaves c (in_runs {f} e rs all) =
     let s = sound c in
     record { states = f; decides = e; saved = refl; written = runs_as_apply s (rw s.head all) rs }
 
-module _ (H : History) (d : List ℕ) (t : TrueDiff H d) (v : Volume) (true-v : TrueVolume H v) where
+module _ (H : History) (d : List ℕ) (t : TrueDiff H d) (v : Volume) (true_v : TrueVolume H v) where
   -- what is decided is decided of the diff's own head and the saved state
   same_head : (a : Applies d v.saved v.image) → a.head ≡ t.head
   same_head a = answer_injective (sym a.diff ∙ t.sound)
 
-  same_state : (a : Applies d v.saved v.image) → a.from ≡ true-v.state
-  same_state a = answer_injective (sym a.reads ∙ true-v.reads)
+  same_state : (a : Applies d v.saved v.image) → a.from ≡ true_v.state
+  same_state a = answer_injective (sym a.reads ∙ true_v.reads)
 
   head_good : GoodHead t.head
   head_good = good_head (sound t.sound).good
 
-  state_good : GoodState true-v.state
-  state_good = read_good v.saved true-v.reads
+  state_good : GoodState true_v.state
+  state_good = read_good v.saved true_v.reads
 
   -- the apply at the saved state
-  pub accepted_of : {f : Further} → decide d v.saved v.image ≡ answer f → Accepted t.head true-v.state × (f ≡ further t.head true-v.state)
+  pub accepted_of : {f : Further} → decide d v.saved v.image ≡ answer f → Accepted t.head true_v.state × (f ≡ further t.head true_v.state)
   accepted_of e =
       let c = decides d v.saved v.image e in
       let a = c.applies in
       (rw (same_head a, same_state a) at a.accepted, rw (same_head a, same_state a) at c.gives)
 
   -- after a cut While is read
-  pub cut_reads : {w : Volume} → CutLeaves d v w → read_state w.saved ≡ answer (while_state t.head true-v.state)
+  pub cut_reads : {w : Volume} → CutLeaves d v w → read_state w.saved ≡ answer (while_state t.head true_v.state)
   cut_reads c =
       let (a, g) = accepted_of c.decides in
-      rw (c.saved, g) (saved_reads _ (while_good t.head true-v.state head_good.q state_good a))
+      rw (c.saved, g) (saved_reads _ (while_good t.head true_v.state head_good.q state_good a))
 
   pub cut_true : {w : Volume} → CutLeaves d v w → TrueVolume H w
   cut_true {w} c =
-      let s = true-v.state in
+      let s = true_v.state in
       let a = (accepted_of c.decides).0 in
       record {
         state = while_state t.head s;
         reads = cut_reads c;
-        holds = while_true H t.head s a state_good head_good.q t.within (named d) t.names v.image true-v.holds w.image c.mixed;
+        holds = while_true H t.head s a state_good head_good.q t.within (named d) t.names v.image true_v.holds w.image c.mixed;
       }
 
   pub finish_true : {w : Volume} → FinishLeaves d v w → TrueVolume H w
   finish_true {w} c =
       let (a, g) = accepted_of c.decides in
-      let s = true-v.state in
+      let s = true_v.state in
       let good = done_good t.head s head_good.q state_good in
       record {
         state = done_state t.head s;
         reads = rw (c.saved, g) (saved_reads _ good);
-        holds = rw c.written (done_true H t.head s a state_good head_good.q t.within (named d) t.names v.image true-v.holds);
+        holds = rw c.written (done_true H t.head s a state_good head_good.q t.within (named d) t.names v.image true_v.holds);
       }
 
   pub move_true : {w : Volume} → Move d v w → TrueVolume H w

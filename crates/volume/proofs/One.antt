@@ -24,7 +24,7 @@ use Rattle.volume.specs.declared.doing.Ran.TheVariants as ran
 use Rattle.volume.specs.declared.view.Place.{Place}
 use Rattle.volume.specs.declared.view.Place.TheVariants as place
 use Rattle.volume.specs.declared.lag.LagSaid.{LagSaid}
-use Rattle.volume.specs.declared.lag.LagSaid.TheVariants as lag-said
+use Rattle.volume.specs.declared.lag.LagSaid.TheVariants as lag_said
 use Rattle.volume.specs.Decisions.{while, done, said_decision, said_applied}
 use Rattle.volume.specs.Writes.{said_run}
 use Rattle.volume.specs.Views.{said_place, place_of}
@@ -70,10 +70,10 @@ one_place (place.No r) (place.InImage j) e = cc
 one_place (place.No r) (place.No s) e = ap place.No (one_refusal r s (cc))
 
 pub one_gids : (r s : LagSaid) → said_lag r ≡ said_lag s → r ≡ s
-one_gids (lag-said.Gids m) (lag-said.Gids n) e = cc
-one_gids (lag-said.Gids m) (lag-said.No s) e = cc
-one_gids (lag-said.No r) (lag-said.Gids n) e = cc
-one_gids (lag-said.No r) (lag-said.No s) e = ap lag-said.No (one_refusal r s (cc))
+one_gids (lag_said.Gids m) (lag_said.Gids n) e = cc
+one_gids (lag_said.Gids m) (lag_said.No s) e = cc
+one_gids (lag_said.No r) (lag_said.Gids n) e = cc
+one_gids (lag_said.No r) (lag_said.No s) e = ap lag_said.No (one_refusal r s (cc))
 
 -- ---- each call
 
@@ -117,7 +117,7 @@ pub record MeetsReadThrough (d img : Bor (List ℕ)) (a : ℕ) (said : ℕ) (v :
   pub shows : v.now ≡ seen d.now img.now (read_through d.now img.now a)
   pub points : v.ref_ptr ≡ place_of d.ref_ptr img.ref_ptr (read_through d.now img.now a)
 
--- the number, the content and the pointer are one; a view's ghost name stands for nothing that a machine holds, and no clause fixes it
+-- the number, the content and the pointer are one
 pub record SameView (said said' : ℕ) (v v' : Bor (List ℕ)) : Type 0 where
   pub says : said ≡ said'
   pub shows : v.now ≡ v'.now
@@ -127,6 +127,10 @@ pub one_read_through : (d img : Bor (List ℕ)) (a said said' : ℕ) (v v' : Bor
     → MeetsReadThrough d img a said v → MeetsReadThrough d img a said' v' → SameView said said' v v'
 one_read_through d img a said said' v v' m n =
     record { says = m.says ∙ sym n.says; shows = m.shows ∙ sym n.shows; points = m.points ∙ sym n.points }
+
+-- and a view is no more than its pointer and its content
+pub one_view : {said said' : ℕ} {v v' : Bor (List ℕ)} → SameView said said' v v' → v ≡ v'
+one_view s = λ i. record { ref_ptr = s.points i; now = s.shows i }
 
 pub one_lag : (saved : List ℕ) (target : ℕ) (r r' : LagSaid) → said_lag r ≡ lag saved target → said_lag r' ≡ lag saved target → r ≡ r'
 one_lag saved target r r' e f = one_gids r r' (e ∙ sym f)

@@ -137,13 +137,13 @@ write_goes_on {d} {img₀} {img} {i} {end} {j} x y w l e f =
     let s = sound may.sound in
     let content : take 512 (take (length d - (24 + 518 * j + 6)) (drop (24 + 518 * j + 6) d)) ≡ content_of (rest d j) = rw part_all (content_place d j) in
     let whole = content_length s j (omega arith) in
-    let put-there : put_mid (512 * x) (length img - 512 * x) img y ≡ put (512 * x) (content_of (rest d j)) img =
+    let put_there : put_mid (512 * x) (length img - 512 * x) img y ≡ put (512 * x) (content_of (rest d j)) img =
     put_part (512 * x) 512 (content_of (rest d j)) y img whole (rw (← content) f) in
     let inside = (turn w l).image in
     let kept : length (put (512 * x) (content_of (rest d j)) img) ≡ length img = put_length (512 * x) (content_of (rest d j)) img (omega arith) in
     let more : end - j ≡ suc (end - suc j) = omega arith in
     let step = write_more s j img (end - suc j) (omega arith) inside in
-    rw put-there
+    rw put_there
     (record {
       head = w.head;
       may = record { sound = may.sound; order = omega arith; within = may.within; inside = rw kept may.inside };

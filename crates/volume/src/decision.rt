@@ -109,6 +109,7 @@ pub fn done_state(h: Head, s: State) -> Done
 }
 
 // The decision on values: "11 to 14 in that order".
+#[tactic(auto, using(crate::proofs::Deciding::exact_no))]
 pub fn decide_on(h: Head, s: State) -> Decision
     ensures { said_decision result ≡ decide_on (head h) (state s) }
 {

@@ -15,6 +15,7 @@ pub enum LagSaid {
 }
 
 // "The lag checks 7, then 20."
+#[tactic(auto, using(crate::proofs::Deciding::gid_no))]
 pub fn lag(state: &[u8], target: u64) -> LagSaid
     ensures { said_lag result ≡ lag state.now target }
 {

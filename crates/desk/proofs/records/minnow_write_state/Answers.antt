@@ -1,9 +1,6 @@
 -- `minnow_write_state` meets its contract: no state has a kind above 2, and every other value is written or refused as `State::write` says.
-use Rattle.desk.proofs.Rows.{kind_no, length_no, length_yes}
+use Rattle.desk.proofs.Rows.{length_no, length_yes}
 use Rattle.desk.proofs.records.minnow_write_state.Goals as goal
-
-pub returns-then-kind-gt2 : goal.returns-then-kind-gt2
-returns-then-kind-gt2 c = search kind_no
 
 pub returns-in-No : goal.returns-in-No
 returns-in-No c = rw (← c.of-k.ensures) (search length_no)

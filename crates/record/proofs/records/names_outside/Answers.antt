@@ -14,5 +14,5 @@ address-requires c = let s = sound c.requires in omega (arith, s.long, s.few)
 
 pub returns : goal.returns
 returns c =
-    let some-record : 0 < c.args.h.n = omega (arith, c.if-n-eq0.false) in
-    outside_last _ (head c.args.h) _ _ c.requires some-record c.address.ensures
+    let some_record : 0 < c.args.h.n = omega (arith, c.if-n-eq0.false) in
+    outside_last _ (head c.args.h) _ _ c.requires some_record c.address.ensures

@@ -1,7 +1,6 @@
 -- `decide_on` meets its contract: it makes the tests of rules 11 to 14 in their order, and where all are passed it gives the two further states.
-use mathlib.Core.Path.{sym, ◌∙◌}
 use borrow.Author.Tests.{eq-eqb, ne_eqb}
-use Rattle.volume.proofs.Deciding.{behind_no, gap_no, short_no, exact_no, all_passed}
+use Rattle.volume.proofs.Deciding.{behind_no, gap_no, short_no, all_passed}
 use Rattle.volume.proofs.decision.decide_on.Goals as goal
 
 pub returns-then-h-s : goal.returns-then-h-s
@@ -13,11 +12,6 @@ returns-then-h-s-2 c = gap_no _ _ c.if-h-s.false c.if-h-s-2.true
 pub returns-then-h-s-3 : goal.returns-then-h-s-3
 returns-then-h-s-3 c =
     short_no _ _ c.if-h-s.false c.if-h-s-2.false c.if-h-s-3.true
-
-pub returns-then-not-is_exact : goal.returns-then-not-is_exact
-returns-then-not-is_exact c =
-    exact_no _ _ c.if-h-s.false c.if-h-s-2.false c.if-h-s-3.false (eq-eqb _ 1 c.if-h-eq1.true)
-    (sym c.is_exact.ensures ∙ c.if-not-is_exact.true)
 
 pub returns-then-h-eq1 : goal.returns-then-h-eq1
 returns-then-h-eq1 c =

@@ -1,4 +1,4 @@
--- `done_state` meets its contract: each field is the one that `done_state` gives.
+-- `done_state` meets its contract: each field is the one that the definition of that name gives.
 use Rattle.paper.specs.Volume.{done_state}
 use Rattle.volume.proofs.decision.done_state.Goals as goal
 

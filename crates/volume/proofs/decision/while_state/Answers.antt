@@ -1,4 +1,4 @@
--- `while_state` meets its contract: each field is the one that `while_state` gives, and the kind is the test's.
+-- `while_state` meets its contract: each field is the one that the definition of that name gives, and the kind is the test's.
 use Rattle.paper.specs.Volume.{while_state}
 use Rattle.volume.proofs.decision.while_state.Goals as goal
 

@@ -2,13 +2,9 @@
 use mathlib.Core.Path.{sym, ap, ◌∙◌}
 use Rattle.paper.proofs.Saved.{read_good}
 use Rattle.record.specs.States.{said_state}
-use Rattle.volume.proofs.Deciding.{lag_no, gid_no, lag_gids}
+use Rattle.volume.proofs.Deciding.{lag_no, lag_gids}
 use Rattle.volume.proofs.Differences.{gid_fits, read_fits, read_back}
 use Rattle.volume.proofs.lag.lag.Goals as goal
-
-pub returns-then-target-gt-MAX_GID : goal.returns-then-target-gt-MAX_GID
-returns-then-target-gt-MAX_GID c =
-    gid_no _ _ _ (sym c.read-said.ensures ∙ ap said_state c.in-Sound.is) c.if-target-gt-MAX_GID.true
 
 pub overflow_cast-result : goal.overflow_cast-result
 overflow_cast-result c =

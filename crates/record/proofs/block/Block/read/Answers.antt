@@ -2,7 +2,7 @@
 use mathlib.Core.Path.{sym}
 use native.Mathlib.Omega.{arith}
 use Rattle.paper.proofs.Check.{record_passes}
-use Rattle.record.proofs.Checks.{marked, first_differs, second_differs, record_unmarked, record_large, record_low}
+use Rattle.record.proofs.Checks.{marked, first_differs, second_differs, record_unmarked, record_low}
 use Rattle.record.proofs.block.Block.read.Goals as goal
 
 pub returns-then-rest-ne87 : goal.returns-then-rest-ne87
@@ -10,10 +10,6 @@ returns-then-rest-ne87 c = sym (record_unmarked _ _ (first_differs _ _ _ c.if-re
 
 pub returns-then-rest-ne66 : goal.returns-then-rest-ne66
 returns-then-rest-ne66 c = sym (record_unmarked _ _ (second_differs _ _ _ c.if-rest-ne66.true))
-
-pub returns-then-address-gt-MAX_ADDRESS : goal.returns-then-address-gt-MAX_ADDRESS
-returns-then-address-gt-MAX_ADDRESS c =
-    sym (record_large _ _ (marked _ _ _ c.if-rest-ne87.false c.if-rest-ne66.false) (omega arith))
 
 pub returns-then-address-low : goal.returns-then-address-low
 returns-then-address-low c =

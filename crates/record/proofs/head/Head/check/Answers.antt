@@ -1,6 +1,6 @@
 -- Each return is one row of the head rules: a broken rule, a count that is too large, or a head that keeps them all.
 use mathlib.Core.Path.{sym}
-use Rattle.record.proofs.Checks.{kind, spare, large_p, large_q, falls, head_refused, head_too_many, head_accepted}
+use Rattle.record.proofs.Checks.{kind, spare, large_p, large_q, falls, head_refused, head_accepted}
 use Rattle.record.proofs.head.Head.check.Goals as goal
 
 pub returns-then-self-gt1 : goal.returns-then-self-gt1
@@ -17,9 +17,6 @@ returns-then-self-gt-MAX_GID-2 c = sym (head_refused (large_q c.if-self-gt-MAX_G
 
 pub returns-then-self : goal.returns-then-self
 returns-then-self c = sym (head_refused (falls c.if-self.true))
-
-pub returns-then-self-gt-MAX_BLOCKS : goal.returns-then-self-gt-MAX_BLOCKS
-returns-then-self-gt-MAX_BLOCKS c = sym (head_too_many (search) c.if-self-gt-MAX_BLOCKS.true)
 
 pub returns : goal.returns
 returns c = sym (head_accepted (search) c.if-self-gt-MAX_BLOCKS.false)

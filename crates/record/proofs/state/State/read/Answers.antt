@@ -4,7 +4,7 @@ use native.Mathlib.Omega.{arith}
 use borrow.Author.Tests.{eq-eqb, ne_eqb}
 use Rattle.paper.specs.Number.{opens}
 use Rattle.paper.specs.State.{bad_record, read_state}
-use Rattle.record.proofs.StateLaws.{read_no_kind, read_bad, read_sound}
+use Rattle.record.proofs.StateLaws.{read_bad, read_sound}
 use Rattle.record.proofs.state.State.read.Goals as goal
 
 pub returns-then-r-ne-SIZE : goal.returns-then-r-ne-SIZE
@@ -24,9 +24,6 @@ pub returns-then-r-ne0 : goal.returns-then-r-ne0
 unfolding read_state bad_record opens
 returns-then-r-ne0 c =
     rw (eq-eqb _ _ c.if-r-ne-SIZE.false, eq-eqb _ _ c.if-r-ne87.false, eq-eqb _ _ c.if-r-ne83.false, ne_eqb _ _ c.if-r-ne0.true)
-
-pub returns-then-byte-gt2 : goal.returns-then-byte-gt2
-returns-then-byte-gt2 c = sym (read_no_kind _ (omega arith) (omega arith) (omega arith) (omega arith) c.if-byte-gt2.true)
 
 pub returns-then-is_bad : goal.returns-then-is_bad
 returns-then-is_bad c =

@@ -3,16 +3,12 @@ use mathlib.Core.Path.{refl, sym, ◌∙◌}
 use native.Mathlib.Omega.{arith}
 use lib.ListN.{length-set}
 use Rattle.paper.specs.Answer.{comes_back, over}
-use Rattle.record.proofs.StateLaws.{write_bad, write_short, write_answers, write_over}
+use Rattle.record.proofs.StateLaws.{write_bad, write_answers, write_over}
 use Rattle.record.proofs.state.State.write.Goals as goal
 
 pub returns-then-is_bad : goal.returns-then-is_bad
 unfolding comes_back over
 returns-then-is_bad c = rw (write_bad _ _ (sym c.is_bad.ensures ∙ c.if-is_bad.true)) (record { answered = refl; leaves = refl })
-
-pub returns-then-out-lt-SIZE : goal.returns-then-out-lt-SIZE
-unfolding comes_back over
-returns-then-out-lt-SIZE c = rw (write_short _ _ (sym c.is_bad.ensures ∙ c.if-is_bad.false) c.if-out-lt-SIZE.true) (record { answered = refl; leaves = refl })
 
 pub bounds-out-1 : goal.bounds-out-1
 bounds-out-1 c = simp length-set (omega arith)
