@@ -96,3 +96,7 @@ over_refused old r e = rw e
 pub refused : {A : Type 0} {r : Said (Wrote A)} {k : ℕ} (old : List ℕ) → r ≡ refuse k → (refuse k ≡ comes_back r) × (old ≡ over old r)
 unfolding comes_back over
 refused old e = rw e (refl, refl)
+
+-- of a call that writes: what it answers and what it leaves, as its two clauses
+pub both : {P Q : Type 0} → P × Q → record { answered : P; leaves : Q }
+both e = record { answered = e.0; leaves = e.1 }

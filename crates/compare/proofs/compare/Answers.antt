@@ -3,7 +3,7 @@ use mathlib.Core.Path.{sym, ap, ◌∙◌}
 use native.Mathlib.Omega.{arith}
 use Rattle.paper.specs.Answer.{refuse}
 use Rattle.paper.specs.Diff.{check_head}
-use Rattle.paper.proofs.Answers.{refused}
+use Rattle.paper.proofs.Answers.{refused, both}
 use Rattle.paper.proofs.Images.{image_no, image_yes}
 use Rattle.record.specs.Images.{said_blocks}
 use Rattle.record.specs.Heads.{said_head}
@@ -12,34 +12,22 @@ use Rattle.compare.proofs.compare.Goals as goal
 
 pub returns-in-No : goal.returns-in-No
 returns-in-No c =
-    let e =
     let (bad, number) = image_no _ (sym c.check_image-first.ensures ∙ ap said_blocks c.in-No.is) in
-    refused c.args.out.now (first_bad _ _ _ _ _ bad ∙ ap refuse number)
-    in
-    record { answered = e.0; leaves = e.1 }
+    both (refused _ (first_bad _ _ _ _ _ bad ∙ ap refuse number))
 
 pub returns-in-No-second : goal.returns-in-No-second
 returns-in-No-second c =
-    let e =
     let (bad, number) = image_no _ (sym c.check_image-second.ensures ∙ ap said_blocks c.in-No-second.is) in
-    refused c.args.out.now (second_bad _ _ _ _ _ bad ∙ ap refuse number)
-    in
-    record { answered = e.0; leaves = e.1 }
+    both (refused _ (second_bad _ _ _ _ _ bad ∙ ap refuse number))
 
 pub returns-then-old-new : goal.returns-then-old-new
 returns-then-old-new c =
-    let e =
-    refused c.args.out.now (unequal c.args.old.now c.args.new.now _ _ _ λ e. omega (arith, c.if-old-new.true))
-    in
-    record { answered = e.0; leaves = e.1 }
+    both (refused _ (unequal _ _ _ _ _ λ e. omega (arith, c.if-old-new.true)))
 
 pub returns-in-No-gids : goal.returns-in-No-gids
 returns-in-No-gids c =
-    let e =
     let (bad, number) = gids_no _ _ (sym (c.check-gids.ensures ∙ ap check_head c.compared.ensures) ∙ ap said_head c.in-No-gids.is) in
-    refused c.args.out.now (gids_bad _ _ _ _ _ (image_yes _ (sym c.check_image-first.ensures ∙ ap said_blocks c.in_default.is)) (image_yes _ (sym c.check_image-second.ensures ∙ ap said_blocks c.in_default-second.is)) c.if-old-new.false bad ∙ ap refuse number)
-    in
-    record { answered = e.0; leaves = e.1 }
+    both (refused _ (gids_bad _ _ _ _ _ (image_yes _ (sym c.check_image-first.ensures ∙ ap said_blocks c.in_default.is)) (image_yes _ (sym c.check_image-second.ensures ∙ ap said_blocks c.in_default-second.is)) c.if-old-new.false bad ∙ ap refuse number))
 
 pub compare_sound-requires : goal.compare_sound-requires
 compare_sound-requires c = record {

@@ -2,7 +2,7 @@
 use mathlib.Core.Path.{ap, ◌∙◌}
 use native.Mathlib.Omega.{arith}
 use Rattle.paper.specs.Diff.{Head, head_bytes}
-use Rattle.paper.proofs.Answers.{refused}
+use Rattle.paper.proofs.Answers.{refused, both}
 use Rattle.number.specs.Put.{put}
 use Rattle.compare.proofs.Answers.{sized, marks_room, marked_count, few_marked, no_room, writes}
 use Rattle.compare.proofs.compare_sound.Goals as goal
@@ -18,10 +18,7 @@ overflow_add-size c = omega (arith, few_marked _ _ _ _ _ (sized c.requires) c.ma
 
 pub returns-then-out-size : goal.returns-then-out-size
 returns-then-out-size c =
-    let e =
-    refused c.args.out.now (no_room _ _ _ _ _ (sized c.requires) c.mark-count.ensures _ _ c.requires _ c.if-out-size.true)
-    in
-    record { answered = e.0; leaves = e.1 }
+    both (refused _ (no_room _ _ _ _ _ (sized c.requires) c.mark-count.ensures _ _ c.requires _ c.if-out-size.true))
 
 pub overflow_cast-count : goal.overflow_cast-count
 overflow_cast-count c = omega (arith, few_marked _ _ _ _ _ (sized c.requires) c.mark-count.ensures)
@@ -36,9 +33,6 @@ write_marked-requires c =
 
 pub returns : goal.returns
 returns c =
-    let e =
     let out = c.args.out.now in
     let head = c.write.ensures ∙ ap (λ (h : Head). put 0 (head_bytes h) out) c.compared.ensures in
-    writes _ _ _ _ _ (sized c.requires) c.mark-count.ensures _ _ c.requires out c.write.new.out c.write_marked.new.out c.if-out-size.false head c.write_marked.ensures
-    in
-    record { answered = e.0; leaves = e.1 }
+    both (writes _ _ _ _ _ (sized c.requires) c.mark-count.ensures _ _ c.requires out c.write.new.out c.write_marked.new.out c.if-out-size.false head c.write_marked.ensures)

@@ -1,4 +1,5 @@
 -- Where deciding refuses nothing is written; where it accepts, every record may be written, and what is written is the overlay of all that the diff names.
+use Rattle.paper.proofs.Answers.{both}
 use mathlib.Core.Path.{sym, ap, ◌∙◌}
 use Rattle.volume.specs.Decisions.{said_decision}
 use Rattle.volume.proofs.Applying.{apply_no, has_head, apply_may, applied}
@@ -14,15 +15,10 @@ write_records-requires c =
 
 pub returns-in-Refused : goal.returns-in-Refused
 returns-in-Refused c =
-    let e =
-    apply_no _ _ _ _ (sym c.decide-said.ensures ∙ ap said_decision c.in-Refused.is)
-    in
-    record { answered = e.0; leaves = e.1 }
+    both (apply_no _ _ _ _ (sym c.decide-said.ensures ∙ ap said_decision c.in-Refused.is))
 
 pub returns-in-Accepted : goal.returns-in-Accepted
 returns-in-Accepted c =
-    let e =
-    applied _ _ _ _ (sym c.decide-said.ensures ∙ ap said_decision c.in-Accepted.is) _ _
-    c.of-h.ensures c.write_records.ensures
-    in
-    record { answered = e.0; leaves = e.1 }
+    both
+    (applied _ _ _ _ (sym c.decide-said.ensures ∙ ap said_decision c.in-Accepted.is) _ _
+    c.of-h.ensures c.write_records.ensures)

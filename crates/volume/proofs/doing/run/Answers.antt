@@ -1,4 +1,5 @@
 -- The diff is checked, and where it passes the checks that are left and the run are those of `run_image`.
+use Rattle.paper.proofs.Answers.{both}
 use mathlib.Core.Path.{sym, ap, ◌∙◌}
 use Rattle.record.specs.Heads.{said_head}
 use Rattle.volume.proofs.Applying.{diff_no}
@@ -10,7 +11,4 @@ run_image-requires c =
 
 pub returns-in-No : goal.returns-in-No
 returns-in-No c =
-    let e =
-    diff_no _ _ _ _ _ (sym c.check-said.ensures ∙ ap said_head c.in-No.is)
-    in
-    record { answered = e.0; leaves = e.1 }
+    both (diff_no _ _ _ _ _ (sym c.check-said.ensures ∙ ap said_head c.in-No.is))

@@ -5,6 +5,10 @@ use Rattle.volume.specs.Views.{said_place}
 use Rattle.volume.proofs.Viewing.{view_within, hands_diff, hands_image, hands_nothing}
 use Rattle.volume.proofs.view.read_through.Goals as goal
 
+-- the number, the bytes and the place, as the three clauses
+handed : {P Q R : Type 0} → P × (Q × R) → record { told : P; shown : Q; placed : R }
+handed e = record { told = e.0; shown = e.1.0; placed = e.1.1 }
+
 pub overflow_add-end : goal.overflow_add-end
 overflow_add-end c =
     let room = view_within _ _ _ (sym c.find_block-p.ensures ∙ ap said_place c.in-InDiff.is) in
@@ -27,22 +31,14 @@ slice_bounds-result-end-in-InImage c =
 
 pub returns-in-InDiff : goal.returns-in-InDiff
 returns-in-InDiff c =
-    let e =
-    hands_diff _ _ _ c.args.d.ref_ptr c.args.img.ref_ptr _ (sym c.find_block-p.ensures ∙ ap said_place c.in-InDiff.is)
-    in
-    record { told = e.0; shown = e.1.0; placed = e.1.1 }
+    handed (hands_diff _ _ _ _ _ _ (sym c.find_block-p.ensures ∙ ap said_place c.in-InDiff.is))
 
 pub returns-in-InImage : goal.returns-in-InImage
 returns-in-InImage c =
-    let e =
-    hands_image _ _ _ c.args.d.ref_ptr c.args.img.ref_ptr _ (sym c.find_block-p.ensures ∙ ap said_place c.in-InImage.is)
-    in
-    record { told = e.0; shown = e.1.0; placed = e.1.1 }
+    handed (hands_image _ _ _ _ _ _ (sym c.find_block-p.ensures ∙ ap said_place c.in-InImage.is))
 
 pub returns-in-No : goal.returns-in-No
 returns-in-No c =
-    let e =
-    hands_nothing _ _ _ c.args.d.ref_ptr c.args.img.ref_ptr _ _ c.number.ensures
-    (sym c.find_block-p.ensures ∙ ap said_place c.in-No.is)
-    in
-    record { told = e.0; shown = e.1.0; placed = e.1.1 }
+    handed
+    (hands_nothing _ _ _ _ _ _ _ c.number.ensures
+    (sym c.find_block-p.ensures ∙ ap said_place c.in-No.is))

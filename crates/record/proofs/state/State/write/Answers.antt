@@ -1,14 +1,13 @@
 -- `State::write` meets its contract: the checks are those of `write_state`, in its order, and the stores and puts that follow are one put of the state's bytes where `out` opens.
-use mathlib.Core.Path.{refl, sym, ◌∙◌}
+use mathlib.Core.Path.{sym, ◌∙◌}
 use native.Mathlib.Omega.{arith}
 use lib.ListN.{length-set}
-use Rattle.paper.specs.Answer.{comes_back, over}
+use Rattle.paper.proofs.Answers.{refused, both}
 use Rattle.record.proofs.StateLaws.{write_bad, write_answers, write_over}
 use Rattle.record.proofs.state.State.write.Goals as goal
 
 pub returns-then-is_bad : goal.returns-then-is_bad
-unfolding comes_back over
-returns-then-is_bad c = rw (write_bad _ _ (sym c.is_bad.ensures ∙ c.if-is_bad.true)) (record { answered = refl; leaves = refl })
+returns-then-is_bad c = both (refused _ (write_bad _ _ (sym c.is_bad.ensures ∙ c.if-is_bad.true)))
 
 pub bounds-out-1 : goal.bounds-out-1
 bounds-out-1 c = simp length-set (omega arith)
@@ -32,4 +31,4 @@ write_u64-requires-3 c =
 pub returns : goal.returns
 returns c =
     let good = sym c.is_bad.ensures ∙ c.if-is_bad.false in
-    record { answered = sym (write_answers _ _ good c.if-out-lt-SIZE.false); leaves = write_over _ c.number.result _ c.write_u64.new.s c.write_u64-2.new.s c.write_u64-3.new.s good c.if-out-lt-SIZE.false c.number.ensures c.write_u64.ensures c.write_u64-2.ensures c.write_u64-3.ensures }
+    both (sym (write_answers _ _ good c.if-out-lt-SIZE.false), write_over _ c.number.result _ c.write_u64.new.s c.write_u64-2.new.s c.write_u64-3.new.s good c.if-out-lt-SIZE.false c.number.ensures c.write_u64.ensures c.write_u64-2.ensures c.write_u64-3.ensures)
