@@ -1,14 +1,13 @@
 -- Bytes stored one after another are bytes put at a place.
-use Prim.Native.Nat.{ℕ, suc, ◌+◌, ◌-◌, ◌/◌, ◌%◌, ◌≤◌, ◌<◌}
-use mathlib.Core.Path.{◌≡◌, refl, sym, ap, ap₂, ◌∙◌}
+use Prim.Native.Nat.{ℕ, suc, ◌+◌, ◌-◌, ◌≤◌, ◌<◌}
+use mathlib.Core.Path.{◌≡◌, sym}
 use mathlib.Core.List.{List, [], ◌∷◌, ◌++◌, append_assoc, append-nil}
 use native.Mathlib.Numerals.{add-one, towards_suc}
 use native.Mathlib.Nat.{add-zero}
 use native.Mathlib.Omega.{arith}
 use lib.ListN.{length, get_or, take, drop, set, length-append, length-take, length-drop, take-append-drop}
 use lib.Seq.{drop-cons, take-suc, set_at, sets-eq, take_at, drop_at, drop-drop, length-take-le, take_all}
-use Rattle.paper.specs.Number.{spelled}
-use Rattle.paper.proofs.Numbers.{spelled_length}
+use borrow.Rule.Slice.PartMut.{put_mid}
 use Rattle.number.specs.Put.{put}
 
 pub put_length : (k : ℕ) (bytes old : List ℕ) → k + length bytes ≤ length old → length (put k bytes old) ≡ length old
@@ -42,24 +41,11 @@ copy_more src dst i h k =
     rw (add-one, drop-cons dst i 0, take-suc src i 0, set_at (take i src) (get_or dst i 0) (drop (suc i) dst) (get_or src i 0) i (length-take-le i src (omega arith)))
     (sym (append_assoc (take i src) (get_or src i 0 ∷ []) (drop (suc i) dst)))
 
--- the bytes of a number in two halves
-pub spelled_8 : (x : ℕ) → spelled 4 (x % 4294967296) ++ spelled 4 (x / 4294967296) ≡ spelled 8 x
-unfolding spelled
-spelled_8 x =
-    cons (omega arith)
-    (cons (omega arith) (cons (omega arith) (cons (omega arith) (cons (omega arith) (cons (omega arith) (cons (omega arith) (cons (omega arith) refl)))))))
-  where
-    cons : {a b : ℕ} {x y : List ℕ} → a ≡ b → x ≡ y → a ∷ x ≡ b ∷ y
-    cons e f = ap₂ ◌∷◌ e f
-
--- the two halves of a number, put one after the other
-pub put_8 : (s y z : List ℕ) (k x : ℕ) → k + 8 ≤ length s → y ≡ put k (spelled 4 (x % 4294967296)) s → z ≡ put (k + 4) (spelled 4 (x / 4294967296)) y → z ≡ put k (spelled 8 x) s
-put_8 s y z k x h e f =
-    let n = spelled_length 4 (x % 4294967296) in
-    let m = spelled_length 4 (x / 4294967296) in
-    let two = put_put k (spelled 4 (x % 4294967296)) (spelled 4 (x / 4294967296)) s (omega arith) in
-    f ∙ rw e (rw n at two) ∙ ap (λ (b : List ℕ). put k b s) (spelled_8 x)
-
 -- a part that is all the rest
 pub part_all : (d : List ℕ) (at : ℕ) → take (length d - at) (drop at d) ≡ drop at d
 part_all d at = take_all (length d - at) (drop at d) (rw length-drop (omega arith))
+
+-- bytes written over a part
+pub part_put : (k w : ℕ) (s y bytes : List ℕ) → y ≡ bytes → length bytes ≡ w → put_mid k (k + w - k) s y ≡ put k bytes s
+unfolding put
+part_put k w s y bytes e n = let m : k + w - k ≡ w = omega arith in rw (e, m, n, drop-drop w k s) (sym (append_assoc (take k s) bytes (drop (k + w) s)))

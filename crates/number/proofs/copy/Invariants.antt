@@ -1,12 +1,8 @@
--- What is copied so far is a front of src, and the rest of dst is as it was: one byte more goes from the rest to the front.
-use Prim.Native.Nat.{◌≤◌, ◌-◌}
+-- What is copied so far is a front of src, and the rest of dst is as it was.
 use mathlib.Core.Path.{◌≡◌}
 use mathlib.Core.List.{◌++◌}
-use lib.ListN.{length, take, drop}
+use lib.ListN.{take, drop}
 use Rattle.number.proofs.copy.Given as goal
 
 abbrev pub invariant-loop-i : goal.invariant-loop-i
-invariant-loop-i l = (l.i ≤ l.n) × (l.dst ≡ take l.i l.src ++ drop l.i l.initial.dst) × (length l.dst ≡ length l.initial.dst)
-
-abbrev pub decreases-loop-i : goal.decreases-loop-i
-decreases-loop-i l = l.n - l.i
+invariant-loop-i g l = l.dst ≡ take l.i l.src ++ drop l.i l.initial.dst
