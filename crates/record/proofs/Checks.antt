@@ -1,11 +1,10 @@
 -- What the checks of `paper` answer, one law for each answer: a broken rule is refused whatever the others say.
 use Prim.Native.Nat.{ℕ, ◌*◌, ◌%◌, ◌≤◌, ◌<◌, ◌/◌}
 use mathlib.Core.Path.{◌≡◌}
-use mathlib.Core.List.{List, [], ◌∷◌}
-use mathlib.Core.Bool.{true, false, or-true, and-false}
-use lib.Dec.{eqb}
-use lib.ListN.{length, get_or}
-use borrow.Author.Tests.{lt-ltb, le-ltb, le-leb, eq-eqb, ne_eqb}
+use mathlib.Core.List.{List}
+use mathlib.Core.Bool.{true, false, or-true}
+use lib.ListN.{length}
+use borrow.Author.Tests.{lt-ltb, le-ltb, le-leb, ne_eqb}
 use Rattle.paper.specs.Limits.{max_gid, max_blocks, max_address, block_bytes, block_mark}
 use Rattle.paper.specs.Number.{opens}
 use Rattle.paper.specs.Answer.{answer, refuse, BadHead, TooMany, BadMark, BadOrder, BadImage}
@@ -13,23 +12,6 @@ use Rattle.paper.specs.Diff.{Head, bad_head, check_head, address_of, check_recor
 use Rattle.paper.specs.Image.{bad_image, check_image}
 use Rattle.paper.proofs.Check.{GoodHead, good_passes}
 use Rattle.paper.proofs.Images.{WholeImage, whole_passes}
-
--- ---- a mark, byte by byte
-
--- both bytes are the mark's
-pub marked : (s : List ℕ) (x y : ℕ) → get_or s 0 0 ≡ x → get_or s 1 0 ≡ y → opens s (x ∷ y ∷ []) ≡ true
-unfolding opens
-marked s x y e f = rw (eq-eqb (get_or s 0 0) x e, eq-eqb (get_or s 1 0) y f)
-
--- the first is not
-pub first_differs : (s : List ℕ) (x y : ℕ) → (get_or s 0 0 ≡ x → ⊥) → opens s (x ∷ y ∷ []) ≡ false
-unfolding opens
-first_differs s x y e = rw (ne_eqb (get_or s 0 0) x e)
-
--- the second is not
-pub second_differs : (s : List ℕ) (x y : ℕ) → (get_or s 1 0 ≡ y → ⊥) → opens s (x ∷ y ∷ []) ≡ false
-unfolding opens
-second_differs s x y e = rw (ne_eqb (get_or s 1 0) y e) (and-false (eqb (get_or s 0 0) x))
 
 -- ---- the head rules
 

@@ -3,4 +3,5 @@ pub mod Checks
 pub mod Stores
 pub mod StateLaws
 pub mod Walk
+pub mod Passing
 pub mod One

@@ -1,22 +1,27 @@
 -- The checks of a state and of its record, an answer at a time, and the bytes of a record put into a slice part by part.
 use Prim.Native.Nat.{ℕ, ◌+◌, ◌≤◌, ◌<◌}
-use mathlib.Core.Path.{◌≡◌, sym, ◌∙◌}
+use mathlib.Core.Path.{◌≡◌, refl, sym, ap, ◌∙◌}
 use mathlib.Core.List.{List, [], ◌∷◌, ◌++◌}
-use mathlib.Core.Bool.{true, false, not}
+use mathlib.Core.Bool.{Bool, true, false, not}
 use native.Mathlib.Omega.{arith}
 use lib.Dec.{leb, ltb, eqb}
 use lib.ListN.{length, get_or, drop, set, length-append}
 use borrow.Author.Tests.{le-ltb, lt-ltb, leb-true, leb-false, eq-eqb, ne_eqb}
-use Rattle.paper.specs.Limits.{max_gid, state_size}
+use Rattle.paper.specs.Limits.{max_gid, state_size, state_mark}
 use Rattle.paper.specs.Number.{spelled, field, opens}
 use Rattle.paper.specs.Answer.{answer, refuse, guard, BadState, NoRoom, output, comes_back, over}
 use Rattle.paper.specs.State.{State, fits_kind, bad_state, state_of, state_bytes, bad_record, read_state, write_state}
 use Rattle.paper.proofs.Bools.{Which, holds, fails, which}
 use Rattle.paper.proofs.States.{FitsKind, is_settled, is_span, is_pair, GoodState, good_of}
-use Rattle.paper.proofs.Answers.{wrote, output_fits}
+use Rattle.paper.proofs.Answers.{answer_injective, refuse_not_answer, wrote, output_fits}
 use Rattle.paper.proofs.Saved.{state_length}
 use Rattle.paper.proofs.Numbers.{spelled_length}
 use Rattle.number.specs.Put.{put}
+use denote.Enum.Bare.{sameb}
+use Rattle.record.specs.contracts.state.Kind.{the_type}
+use Rattle.record.specs.declared.state.Kind.{Kind}
+use Rattle.record.specs.declared.state.Kind.TheVariants.{Settled, Span, Pair}
+use Rattle.record.specs.States.{kind_number, kind_of}
 use Rattle.number.proofs.Puts.{put_4, put_put}
 
 -- ---- the values of a state
@@ -79,13 +84,32 @@ no_kind s h = bad_if s λ g. go g.fits
     go (is_span k t e) = omega arith
     go (is_pair k t e) = omega arith
 
+-- being settled is having the number 0, and being a pair the number 2
+pub settled_by_number : (k : Kind) → sameb the_type k Settled ≡ eqb (kind_number k) 0
+settled_by_number Settled = refl
+settled_by_number Span = refl
+settled_by_number Pair = refl
+
+pub pair_by_number : (k : Kind) → sameb the_type k Pair ≡ eqb (kind_number k) 2
+pair_by_number Settled = refl
+pair_by_number Span = refl
+pair_by_number Pair = refl
+
 -- ---- the record of a state
 
+-- a byte that is a kind is that kind's number
+pub kind_read : (k byte : ℕ) → answer k ≡ kind_of byte → k ≡ byte
+kind_read k byte e = go (which (ltb 2 byte))
+  where
+    go : Which (ltb 2 byte) → k ≡ byte
+    go (holds y) = absurd (refuse_not_answer (sym (e ∙ ap (λ (f : Bool). guard f BadState (answer byte)) y)))
+    go (fails n) = answer_injective (e ∙ ap (λ (f : Bool). guard f BadState (answer byte)) n)
+
 -- a record of the right length, mark and spare byte is as its state is
-module _ (r : List ℕ) (l : length r ≡ state_size) (m : get_or r 0 0 ≡ 0x57) (n : get_or r 1 0 ≡ 0x53) (z : get_or r 3 0 ≡ 0) where
+module _ (r : List ℕ) (l : length r ≡ state_size) (m : opens r state_mark ≡ true) (z : get_or r 3 0 ≡ 0) where
   framed : read_state r ≡ guard (bad_state (state_of r)) BadState (answer (state_of r))
-  unfolding read_state bad_record opens
-  framed = rw (eq-eqb _ _ l, eq-eqb _ _ m, eq-eqb _ _ n, eq-eqb _ _ z)
+  unfolding read_state bad_record
+  framed = rw (eq-eqb _ _ l, m, eq-eqb _ _ z)
 
   pub read_no_kind : 2 < get_or r 2 0 → read_state r ≡ refuse BadState
   unfolding state_of

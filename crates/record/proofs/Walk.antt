@@ -5,7 +5,6 @@ use mathlib.Core.Option.{none, some}
 use mathlib.Core.List.{List}
 use mathlib.Core.Bool.{false}
 use native.Mathlib.Numerals.{add-one}
-use native.Mathlib.Nat.{sub-zero}
 use native.Mathlib.Omega.{arith}
 use lib.Dec.{leb}
 use lib.ListN.{length, take, drop}
@@ -17,10 +16,9 @@ use Rattle.paper.specs.Diff.{Head, rest, address_of, check_record, check_records
 use Rattle.paper.proofs.Check.{record_sound, sound}
 use Rattle.paper.proofs.Names.{outside_empty, outside_by_last}
 use Rattle.number.proofs.Puts.{part_all}
+use Rattle.std.specs.Prelude.{Result, Ok, Err}
 use Rattle.record.specs.declared.refusal.Refusal.{Refusal}
 use Rattle.record.specs.declared.block.Block.{Block}
-use Rattle.record.specs.declared.block.BlockSaid.{BlockSaid}
-use Rattle.record.specs.declared.block.BlockSaid.TheVariants.{Sound, No}
 use Rattle.record.specs.Refusals.{number_of}
 use Rattle.record.specs.Blocks.{said_address}
 
@@ -49,46 +47,31 @@ pub records_end : (d : List ℕ) (n i low : ℕ) → n ≤ i → check_records d
 unfolding check_records
 records_end d n i low h = let m : n - i ≡ 0 = omega arith in rw m
 
--- the check before record i: `at` is its place, `low` the lowest address still allowed
-pub record Checking (d : List ℕ) (n i at low : ℕ) : Type 0 where
-  pub place : at ≡ 24 + 518 * i
+-- the check before record i: `low` is the lowest address still allowed
+pub record Checking (d : List ℕ) (n i low : ℕ) : Type 0 where
   pub within : i ≤ n
   pub few : low ≤ 65536
   pub left : check_records d 0 n 0 ≡ check_records d i (n - i) low
 
-pub check_begins : (d : List ℕ) (n : ℕ) → Checking d n 0 24 0
-check_begins d n = record { place = refl; within = omega arith; few = omega arith; left = ap (λ (k : ℕ). check_records d 0 k 0) (sym (sub-zero n)) }
+-- what the reader says of the part from record i on is what the definition says of record i
+module _ (d : List ℕ) (n i low : ℕ) (r : Result Block Refusal) (c : Checking d n i low)
+    (e : said_address r ≡ check_record (take (length d - (24 + 518 * i)) (drop (24 + 518 * i) d)) low) where
+  reads_rest : said_address r ≡ check_record (rest d i) low
+  reads_rest = e ∙ ap (λ (s : List ℕ). check_record s low) (part_rest d i (24 + 518 * i) refl)
 
--- what the reader says of the rest is what the definition says of record i
-reads_rest : (d : List ℕ) (n i at low : ℕ) (r : BlockSaid) → Checking d n i at low → said_address r ≡ check_record (take (length d - at) (drop at d)) low
-    → said_address r ≡ check_record (rest d i) low
-reads_rest d n i at low r c e = e ∙ ap (λ (s : List ℕ). check_record s low) (part_rest d i at c.place)
+  pub small_address : (b : Block) → r ≡ Ok b → b.address ≤ 65535
+  small_address b f = let k = record_sound (rest d i) low (sym reads_rest ∙ ap said_address f) in omega (arith, k.0, k.1.small)
 
-pub small_address : (d : List ℕ) (n i at low : ℕ) (r : BlockSaid) (b : Block) → Checking d n i at low
-    → said_address r ≡ check_record (take (length d - at) (drop at d)) low → r ≡ Sound b → b.address ≤ 65535
-small_address d n i at low r b c e f =
-    let k = record_sound (rest d i) low (sym (reads_rest d n i at low r c e) ∙ ap said_address f) in
-    omega (arith, k.0, k.1.small)
+  pub check_goes_on : (b : Block) → i < n → r ≡ Ok b → Checking d n (i + 1) (b.address + 1)
+  check_goes_on b l f =
+      let small = small_address b f in
+      record { within = omega arith; few = omega arith; left = c.left ∙ records_more d n i low b.address l (sym reads_rest ∙ ap said_address f) }
 
-pub check_goes_on : (d : List ℕ) (n i at low : ℕ) (r : BlockSaid) (b : Block) → Checking d n i at low → i < n
-    → said_address r ≡ check_record (take (length d - at) (drop at d)) low → r ≡ Sound b → Checking d n (i + 1) (at + 518) (b.address + 1)
-check_goes_on d n i at low r b c l e f =
-    let k = reads_rest d n i at low r c e in
-    let small = small_address d n i at low r b c e f in
-    record {
-      place = omega (arith, c.place);
-      within = omega arith;
-      few = omega arith;
-      left = c.left ∙ records_more d n i low b.address l (sym k ∙ ap said_address f);
-    }
+  pub check_refuses : (x : Refusal) → i < n → r ≡ Err x → refuse (number_of x) ≡ check_records d 0 n 0
+  check_refuses x l f = sym (c.left ∙ records_stop d n i low (number_of x) l (sym reads_rest ∙ ap said_address f))
 
-pub check_refuses : (d : List ℕ) (n i at low : ℕ) (r : BlockSaid) (x : Refusal) → Checking d n i at low → i < n
-    → said_address r ≡ check_record (take (length d - at) (drop at d)) low → r ≡ No x → refuse (number_of x) ≡ check_records d 0 n 0
-check_refuses d n i at low r x c l e f =
-    sym (c.left ∙ records_stop d n i low (number_of x) l (sym (reads_rest d n i at low r c e) ∙ ap said_address f))
-
-pub check_ends : (d : List ℕ) (n i at low : ℕ) → Checking d n i at low → n ≤ i → answer tt ≡ check_records d 0 n 0
-check_ends d n i at low c l = sym (c.left ∙ records_end d n i low l)
+pub check_ends : (d : List ℕ) (n i low : ℕ) → Checking d n i low → n ≤ i → answer tt ≡ check_records d 0 n 0
+check_ends d n i low c l = sym (c.left ∙ records_end d n i low l)
 
 -- looking for a block: here, further on, or nowhere
 pub seek_here : (d : List ℕ) (a n i : ℕ) → i < n → address_of (rest d i) ≡ a → seek d a i (n - i) ≡ some i
@@ -103,27 +86,18 @@ pub seek_end : (d : List ℕ) (a n i : ℕ) → n ≤ i → seek d a i (n - i) �
 unfolding seek
 seek_end d a n i h = let m : n - i ≡ 0 = omega arith in rw m
 
--- the lookup before record i
-pub record Seeking (d : List ℕ) (a n i : ℕ) : Type 0 where
-  pub within : i ≤ n
-  pub few : n ≤ 65536
-  pub long : length d ≡ 24 + 518 * n
-  pub left : seek d a 0 n ≡ seek d a i (n - i)
-
-pub seek_begins : (d : List ℕ) (a : ℕ) (h : Head) → check d ≡ answer h → Seeking d a h.n 0
-seek_begins d a h e =
-    let s = sound e in
-    record { within = omega arith; few = s.few; long = s.long; left = ap (λ (k : ℕ). seek d a 0 k) (sym (sub-zero h.n)) }
+-- the lookup before record i: what is left to look through decides
+abbrev pub Seeking : List ℕ → ℕ → ℕ → ℕ → Type 0
+Seeking d a n i = seek d a 0 n ≡ seek d a i (n - i)
 
 pub seek_stops : (d : List ℕ) (a n i x : ℕ) → Seeking d a n i → i < n → x ≡ address_of (rest d i) → x ≡ a → some i ≡ seek d a 0 n
-seek_stops d a n i x s l e f = sym (s.left ∙ seek_here d a n i l (sym e ∙ f))
+seek_stops d a n i x s l e f = sym (s ∙ seek_here d a n i l (sym e ∙ f))
 
 pub seek_goes_on : (d : List ℕ) (a n i x : ℕ) → Seeking d a n i → i < n → x ≡ address_of (rest d i) → (x ≡ a → ⊥) → Seeking d a n (i + 1)
-seek_goes_on d a n i x s l e f =
-    record { within = omega arith; few = s.few; long = s.long; left = s.left ∙ seek_on d a n i l (λ g. f (e ∙ g)) }
+seek_goes_on d a n i x s l e f = s ∙ seek_on d a n i l (λ g. f (e ∙ g))
 
 pub seek_finishes : (d : List ℕ) (a n i : ℕ) → Seeking d a n i → n ≤ i → none ≡ seek d a 0 n
-seek_finishes d a n i s l = sym (s.left ∙ seek_end d a n i l)
+seek_finishes d a n i s l = sym (s ∙ seek_end d a n i l)
 
 -- Outside, by the last record
 pub outside_none : (d : List ℕ) (h : Head) (m : ℕ) → check d ≡ answer h → h.n ≡ 0 → false ≡ names_outside d 0 h.n m

@@ -1,10 +1,9 @@
 -- What the image rule says: the number of blocks.
 use Rattle.std.specs.Prelude.{ℕ}
-use Rattle.paper.specs.Answer.{Said, answer, refuse}
-use Rattle.record.specs.declared.image.ImageSaid.{ImageSaid}
-use Rattle.record.specs.declared.image.ImageSaid.TheVariants.{Blocks, No}
-use Rattle.record.specs.Refusals.{number_of}
+use Rattle.std.specs.Prelude.{Result}
+use Rattle.paper.specs.Answer.{Said}
+use Rattle.record.specs.declared.refusal.Refusal.{Refusal}
+use Rattle.record.specs.Refusals.{said}
 
-abbrev pub said_blocks : ImageSaid → Said ℕ
-said_blocks (Blocks m) = answer m
-said_blocks (No r) = refuse (number_of r)
+abbrev pub said_blocks : Result ℕ Refusal → Said ℕ
+said_blocks = said (λ m. m)

@@ -1,17 +1,19 @@
 // The diff head: "57 44, kind (0 log, 1 compared), a zero byte, p (8), q (8), number of blocks n (4)".
 ghost use Rattle.std.specs.Prelude.{◌≡◌, ◌≤◌, length};
-ghost use Rattle.paper.specs.Diff.{head_of, head_bytes, check_head, read_head};
+ghost use Rattle.paper.specs.Diff.{head_of, head_bytes, is_compared, check_head, read_head};
 ghost use Rattle.number.specs.Put.{put};
 ghost use Rattle.record.specs.Heads.{head, said_head};
 
+use crate::mark;
 use crate::refusal::Refusal;
+use number::Field;
 
 // "A gid is at most 9,223,372,036,854,775,807."
 pub const MAX_GID: u64 = 9_223_372_036_854_775_807;
 // "n is at most 65,536"
 pub const MAX_BLOCKS: u32 = 65_536;
 
-// Every field that can be wrong.
+// Every field that can be wrong. The kind is a number for that: 3 refuses a head of kind 2, and a shelf may hold one.
 #[derive(Clone, Copy)]
 pub struct Head {
     pub kind: u8,
@@ -21,15 +23,16 @@ pub struct Head {
     pub n: u32,
 }
 
-// The answer of a check of a head.
-#[derive(Clone, Copy)]
-pub enum HeadSaid {
-    Sound(Head),
-    No(Refusal),
-}
-
 impl Head {
     pub const SIZE: usize = 24;
+
+    // the second byte of its mark
+    const MARK: u8 = 0x44;
+
+    // "kind (0 log, 1 compared)"
+    pub const LOG: u8 = 0;
+
+    pub const COMPARED: u8 = 1;
 
     // The head that bytes open with.
     pub fn of(d: &[u8]) -> Head
@@ -39,50 +42,53 @@ impl Head {
         Head {
             kind: d[2],
             spare: d[3],
-            p: number::read_u64(d, 4),
-            q: number::read_u64(d, 12),
-            n: number::read_u32(d, 20),
+            p: u64::read(d, 4),
+            q: u64::read(d, 12),
+            n: u32::read(d, 20),
         }
+    }
+
+    pub fn is_compared(self) -> bool
+        ensures { result ≡ is_compared (head self) }
+    {
+        self.kind == Head::COMPARED
     }
 
     // The head rules, 3 and then 4.
     #[tactic(auto, using(crate::proofs::Checks::head_too_many))]
-    pub fn check(self) -> HeadSaid
+    pub fn check(self) -> Result<Head, Refusal>
         ensures { said_head result ≡ check_head (head self) }
     {
-        if self.kind > 1 {
-            return HeadSaid::No(Refusal::BadHead);
+        if self.kind > Head::COMPARED {
+            return Err(Refusal::BadHead);
         }
         if self.spare != 0 {
-            return HeadSaid::No(Refusal::BadHead);
+            return Err(Refusal::BadHead);
         }
         if self.p > MAX_GID {
-            return HeadSaid::No(Refusal::BadHead);
+            return Err(Refusal::BadHead);
         }
         if self.q > MAX_GID {
-            return HeadSaid::No(Refusal::BadHead);
+            return Err(Refusal::BadHead);
         }
         if self.p >= self.q {
-            return HeadSaid::No(Refusal::BadHead);
+            return Err(Refusal::BadHead);
         }
         if self.n > MAX_BLOCKS {
-            return HeadSaid::No(Refusal::TooMany);
+            return Err(Refusal::TooMany);
         }
-        HeadSaid::Sound(self)
+        Ok(self)
     }
 
     // "under 24 bytes, mark, BadHead, TooMany"
-    pub fn read(d: &[u8]) -> HeadSaid
+    pub fn read(d: &[u8]) -> Result<Head, Refusal>
         ensures { said_head result ≡ read_head d.now }
     {
         if d.len() < Head::SIZE {
-            return HeadSaid::No(Refusal::CutOff);
+            return Err(Refusal::CutOff);
         }
-        if d[0] != 0x57 {
-            return HeadSaid::No(Refusal::BadMark);
-        }
-        if d[1] != 0x44 {
-            return HeadSaid::No(Refusal::BadMark);
+        if !mark::opens(d, Head::MARK) {
+            return Err(Refusal::BadMark);
         }
         Head::of(d).check()
     }
@@ -92,12 +98,12 @@ impl Head {
         requires { 24 ≤ length out.old }
         ensures { out.new ≡ put 0 (head_bytes (head self)) out.old }
     {
-        out[0] = 0x57;
-        out[1] = 0x44;
+        out[0] = mark::FIRST;
+        out[1] = Head::MARK;
         out[2] = self.kind;
         out[3] = self.spare;
-        number::write_u64(out, 4, self.p);
-        number::write_u64(out, 12, self.q);
-        number::write_u32(out, 20, self.n);
+        self.p.write(out, 4);
+        self.q.write(out, 12);
+        self.n.write(out, 20);
     }
 }

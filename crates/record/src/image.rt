@@ -8,25 +8,19 @@ use crate::refusal::Refusal;
 // 65,536 blocks of 512 bytes
 pub const MAX_BYTES: usize = 33_554_432;
 
-#[derive(Clone, Copy)]
-pub enum ImageSaid {
-    Blocks(usize),
-    No(Refusal),
-}
-
 // The number of blocks of an image, or BadImage.
 #[tactic(auto, using(crate::proofs::Checks::image_refused, crate::proofs::Checks::long))]
-pub fn check_image(img: &[u8]) -> ImageSaid
+pub fn check_image(img: &[u8]) -> Result<usize, Refusal>
     ensures { said_blocks result ≡ check_image img.now }
 {
     if img.len() == 0 {
-        return ImageSaid::No(Refusal::BadImage);
+        return Err(Refusal::BadImage);
     }
     if img.len() % 512 != 0 {
-        return ImageSaid::No(Refusal::BadImage);
+        return Err(Refusal::BadImage);
     }
     if img.len() > MAX_BYTES {
-        return ImageSaid::No(Refusal::BadImage);
+        return Err(Refusal::BadImage);
     }
-    ImageSaid::Blocks(img.len() / 512)
+    Ok(img.len() / 512)
 }

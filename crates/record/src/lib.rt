@@ -4,6 +4,7 @@
 pub mod block;
 pub mod head;
 pub mod image;
+mod mark;
 pub mod records;
 pub mod refusal;
 pub mod state;

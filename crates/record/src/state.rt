@@ -2,13 +2,15 @@
 ghost use Rattle.std.specs.Prelude.{◌≡◌, ◌≤◌, length};
 ghost use Rattle.paper.specs.Answer.{comes_back, over};
 ghost use Rattle.paper.specs.State.{clean, settled, pair, is_clean, bad_state, read_state, write_state};
-ghost use Rattle.record.specs.States.{kind_number, state, said_state, said_length};
+ghost use Rattle.record.specs.States.{kind_number, said_kind, kind_of, state, said_state, said_length};
 
 use crate::head::MAX_GID;
+use crate::mark;
 use crate::refusal::Refusal;
+use number::Field;
 
 // "Kind 0 (settled)", "Kind 1 (span)", "Kind 2 (pair)"
-#[derive(Clone, Copy)]
+#[derive(Clone, Copy, Debug, PartialEq, Eq)]
 pub enum Kind {
     Settled,
     Span,
@@ -16,26 +18,26 @@ pub enum Kind {
 }
 
 impl Kind {
-    // The kind that a record's byte stands for; a byte above 2 stands for none, and is refused before.
-    pub fn of(byte: u8) -> Kind
-        requires { byte ≤ 2 }
-        ensures { kind_number result ≡ byte }
-    {
-        match byte {
-            0 => Kind::Settled,
-            1 => Kind::Span,
-            _ => Kind::Pair,
-        }
-    }
-
     // Its number in 01.
     pub fn number(self) -> u8
         ensures { result ≡ kind_number self }
     {
-        match self {
-            Kind::Settled => 0,
-            Kind::Span => 1,
-            Kind::Pair => 2,
+        self as u8
+    }
+}
+
+// The kind that a record's byte stands for; a byte above 2 stands for none.
+impl TryFrom<u8> for Kind {
+    type Error = Refusal;
+
+    ghost try_from_gives = { λ byte r. said_kind r ≡ kind_of byte };
+
+    fn try_from(byte: u8) -> Result<Kind, Refusal> {
+        match byte {
+            0 => Ok(Kind::Settled),
+            1 => Ok(Kind::Span),
+            2 => Ok(Kind::Pair),
+            _ => Err(Refusal::BadState),
         }
     }
 }
@@ -49,21 +51,11 @@ pub struct State {
     pub e: u64,
 }
 
-#[derive(Clone, Copy)]
-pub enum StateSaid {
-    Sound(State),
-    No(Refusal),
-}
-
-// What a call that writes answers: the length of what it wrote.
-#[derive(Clone, Copy)]
-pub enum Written {
-    Bytes(usize),
-    No(Refusal),
-}
-
 impl State {
     pub const SIZE: usize = 28;
+
+    // the second byte of its mark
+    const MARK: u8 = 0x53;
 
     // "settled at b = t"
     pub fn settled(b: u64, e: u64) -> State
@@ -98,12 +90,7 @@ impl State {
     pub fn is_clean(self) -> bool
         ensures { result ≡ is_clean (state self) }
     {
-        let kind = self.kind;
-        match kind {
-            Kind::Settled => self.b == self.e,
-            Kind::Span => false,
-            Kind::Pair => false,
-        }
+        self.kind == Kind::Settled && self.b == self.e
     }
 
     // "gid too large, or gids against the kind"
@@ -119,8 +106,7 @@ impl State {
         if self.e > MAX_GID {
             return true;
         }
-        let kind = self.kind;
-        match kind {
+        match self.kind {
             Kind::Settled => {
                 if self.t != self.b {
                     return true;
@@ -144,58 +130,49 @@ impl State {
 
     // A state of any bytes: BadState, or the state.
     #[tactic(auto, using(crate::proofs::StateLaws::read_no_kind))]
-    pub fn read(r: &[u8]) -> StateSaid
+    pub fn read(r: &[u8]) -> Result<State, Refusal>
         ensures { said_state result ≡ read_state r.now }
     {
         if r.len() != State::SIZE {
-            return StateSaid::No(Refusal::BadState);
+            return Err(Refusal::BadState);
         }
-        if r[0] != 0x57 {
-            return StateSaid::No(Refusal::BadState);
-        }
-        if r[1] != 0x53 {
-            return StateSaid::No(Refusal::BadState);
+        if !mark::opens(r, State::MARK) {
+            return Err(Refusal::BadState);
         }
         if r[3] != 0 {
-            return StateSaid::No(Refusal::BadState);
+            return Err(Refusal::BadState);
         }
-        let byte = r[2];
-        if byte > 2 {
-            return StateSaid::No(Refusal::BadState);
-        }
-        let kind = Kind::of(byte);
         let s = State {
-            kind,
-            b: number::read_u64(r, 4),
-            t: number::read_u64(r, 12),
-            e: number::read_u64(r, 20),
+            kind: Kind::try_from(r[2])?,
+            b: u64::read(r, 4),
+            t: u64::read(r, 12),
+            e: u64::read(r, 20),
         };
         if s.is_bad() {
-            return StateSaid::No(Refusal::BadState);
+            return Err(Refusal::BadState);
         }
-        StateSaid::Sound(s)
+        Ok(s)
     }
 
     // "A state is also written out as its record (BadState, then NoRoom)."
     #[tactic(auto, using(crate::proofs::StateLaws::write_short), unfolding(paper::specs::Answer::comes_back, paper::specs::Answer::over))]
-    pub fn write(self, out: &mut [u8]) -> Written
+    pub fn write(self, out: &mut [u8]) -> Result<usize, Refusal>
         ensures answered { said_length result ≡ comes_back (write_state (state self) (length out.old)) }
         ensures leaves { out.new ≡ over out.old (write_state (state self) (length out.old)) }
     {
         if self.is_bad() {
-            return Written::No(Refusal::BadState);
+            return Err(Refusal::BadState);
         }
         if out.len() < State::SIZE {
-            return Written::No(Refusal::NoRoom);
+            return Err(Refusal::NoRoom);
         }
-        let kind = self.kind;
-        out[0] = 0x57;
-        out[1] = 0x53;
-        out[2] = kind.number();
+        out[0] = mark::FIRST;
+        out[1] = State::MARK;
+        out[2] = self.kind.number();
         out[3] = 0;
-        number::write_u64(out, 4, self.b);
-        number::write_u64(out, 12, self.t);
-        number::write_u64(out, 20, self.e);
-        Written::Bytes(State::SIZE)
+        self.b.write(out, 4);
+        self.t.write(out, 12);
+        self.e.write(out, 20);
+        Ok(State::SIZE)
     }
 }

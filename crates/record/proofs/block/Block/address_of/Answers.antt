@@ -4,4 +4,4 @@ use Rattle.record.proofs.block.Block.address_of.Goals as goal
 
 pub returns : goal.returns
 unfolding address_of
-returns c = c.read_u32.ensures
+returns c = c.read.ensures

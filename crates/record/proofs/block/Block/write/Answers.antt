@@ -9,13 +9,13 @@ use Rattle.record.proofs.block.Block.write.Goals as goal
 pub bounds-out-1 : goal.bounds-out-1
 bounds-out-1 c = simp length-set (omega arith)
 
-pub write_u32-requires : goal.write_u32-requires
-write_u32-requires c = simp length-set (omega arith)
+pub write-requires : goal.write-requires
+write-requires c = simp length-set (omega arith)
 
-pub copy_block-requires : goal.copy_block-requires
-copy_block-requires c = let kept = simp length-set at c.write_u32.auto.s in simp (length-take, length-drop) (omega arith)
+pub copy-requires : goal.copy-requires
+copy-requires c = let kept = simp length-set at c.write.auto.s in simp (length-take, length-drop) (omega arith)
 
 pub returns : goal.returns
 returns c =
     let args = c.args in
-    put_record args.self.address (take 512 args.content.now) args.out.now c.write_u32.new.s _ (length-take-le 512 args.content.now (omega arith)) (omega arith) c.write_u32.ensures c.copy_block.ensures
+    put_record args.self.address (take 512 args.content.now) args.out.now c.write.new.s _ (length-take-le 512 args.content.now (omega arith)) (omega arith) c.write.ensures c.copy.ensures

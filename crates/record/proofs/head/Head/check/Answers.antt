@@ -3,8 +3,8 @@ use mathlib.Core.Path.{sym}
 use Rattle.record.proofs.Checks.{kind, spare, large_p, large_q, falls, head_refused, head_accepted}
 use Rattle.record.proofs.head.Head.check.Goals as goal
 
-pub returns-then-self-gt1 : goal.returns-then-self-gt1
-returns-then-self-gt1 c = sym (head_refused (kind c.if-self-gt1.true))
+pub returns-then-self-gt-COMPARED : goal.returns-then-self-gt-COMPARED
+returns-then-self-gt-COMPARED c = sym (head_refused (kind c.if-self-gt-COMPARED.true))
 
 pub returns-then-self-ne0 : goal.returns-then-self-ne0
 returns-then-self-ne0 c = sym (head_refused (spare c.if-self-ne0.true))

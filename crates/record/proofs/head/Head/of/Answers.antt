@@ -4,4 +4,4 @@ use Rattle.record.proofs.head.Head.of.Goals as goal
 
 pub returns : goal.returns
 unfolding head_of
-returns c = rw (c.read_u64.ensures, c.read_u64-2.ensures, c.read_u32.ensures)
+returns c = rw (c.read.ensures, c.read-2.ensures, c.read-3.ensures)

@@ -14,16 +14,16 @@ bounds-out-2 c = simp length-set (omega arith)
 pub bounds-out-3 : goal.bounds-out-3
 bounds-out-3 c = simp length-set (omega arith)
 
-pub write_u64-requires : goal.write_u64-requires
-write_u64-requires c = simp length-set (omega arith)
+pub write-requires : goal.write-requires
+write-requires c = simp length-set (omega arith)
 
-pub write_u64-requires-2 : goal.write_u64-requires-2
-write_u64-requires-2 c = omega (arith, simp length-set at c.write_u64.auto.s)
+pub write-requires-2 : goal.write-requires-2
+write-requires-2 c = omega (arith, simp length-set at c.write.auto.s)
 
-pub write_u32-requires : goal.write_u32-requires
-write_u32-requires c = omega (arith, simp length-set at c.write_u64.auto.s)
+pub write-requires-3 : goal.write-requires-3
+write-requires-3 c = omega (arith, simp length-set at c.write.auto.s)
 
 pub returns : goal.returns
 returns c =
     let args = c.args in
-    put_head (head args.self) args.out.now c.write_u64.new.s c.write_u64-2.new.s c.write_u32.new.s (omega arith) c.write_u64.ensures c.write_u64-2.ensures c.write_u32.ensures
+    put_head (head args.self) args.out.now c.write.new.s c.write-2.new.s c.write-3.new.s (omega arith) c.write.ensures c.write-2.ensures c.write-3.ensures

@@ -1,15 +1,12 @@
--- `State::is_clean` meets its contract: the kind's number is 0 for the settled ones alone, and of those the test is of b against e.
+-- The kind's number is 0 for the settled ones alone, and of those the test is of b against e.
 use Rattle.paper.specs.State.{is_clean}
+use Rattle.record.proofs.StateLaws.{settled_by_number}
 use Rattle.record.proofs.state.State.is_clean.Goals as goal
 
-pub returns-in-Settled : goal.returns-in-Settled
+pub returns-then-eq : goal.returns-then-eq
 unfolding is_clean
-returns-in-Settled c = rw c.in-Settled.is
+returns-then-eq c = rw (← settled_by_number c.args.self.kind, ← c.if-eq.ensures)
 
-pub returns-in-Span : goal.returns-in-Span
+pub returns-else-eq : goal.returns-else-eq
 unfolding is_clean
-returns-in-Span c = rw c.in-Span.is
-
-pub returns-in-Pair : goal.returns-in-Pair
-unfolding is_clean
-returns-in-Pair c = rw c.in-Pair.is
+returns-else-eq c = rw (c.if-eq.false, ← settled_by_number c.args.self.kind, ← c.if-eq.ensures)

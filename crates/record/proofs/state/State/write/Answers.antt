@@ -18,17 +18,17 @@ bounds-out-2 c = simp length-set (omega arith)
 pub bounds-out-3 : goal.bounds-out-3
 bounds-out-3 c = simp length-set (omega arith)
 
-pub write_u64-requires : goal.write_u64-requires
-write_u64-requires c = simp length-set (omega arith)
+pub write-requires : goal.write-requires
+write-requires c = simp length-set (omega arith)
 
-pub write_u64-requires-2 : goal.write_u64-requires-2
-write_u64-requires-2 c = omega (arith, simp length-set at c.write_u64.auto.s)
+pub write-requires-2 : goal.write-requires-2
+write-requires-2 c = omega (arith, simp length-set at c.write.auto.s)
 
-pub write_u64-requires-3 : goal.write_u64-requires-3
-write_u64-requires-3 c =
-    omega (arith, simp length-set at c.write_u64.auto.s, c.write_u64-2.auto.s)
+pub write-requires-3 : goal.write-requires-3
+write-requires-3 c =
+    omega (arith, simp length-set at c.write.auto.s, c.write-2.auto.s)
 
 pub returns : goal.returns
 returns c =
     let good = sym c.is_bad.ensures ∙ c.if-is_bad.false in
-    both (sym (write_answers _ _ good c.if-out-lt-SIZE.false), write_over _ c.number.result _ c.write_u64.new.s c.write_u64-2.new.s c.write_u64-3.new.s good c.if-out-lt-SIZE.false c.number.ensures c.write_u64.ensures c.write_u64-2.ensures c.write_u64-3.ensures)
+    both (sym (write_answers _ _ good c.if-out-lt-SIZE.false), write_over _ c.number.result _ c.write.new.s c.write-2.new.s c.write-3.new.s good c.if-out-lt-SIZE.false c.number.ensures c.write.ensures c.write-2.ensures c.write-3.ensures)
