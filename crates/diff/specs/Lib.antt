@@ -1,1 +1,2 @@
--- Nothing of its own: the promise cites `paper` and the maps of `record`.
+-- What the calls of this crate say.
+pub mod Whole

@@ -1,44 +1,39 @@
 // The check of a diff: any bytes may arrive.
 #![tactic(auto)]
 
-ghost use Rattle.std.specs.Prelude.{◌≡◌};
-ghost use Rattle.paper.specs.Answer.{answer};
-ghost use Rattle.paper.specs.Diff.{read_head, check};
-ghost use Rattle.record.specs.Heads.{head, said_head};
+ghost use Rattle.std.specs.Prelude.{◌≡◌, IfOk};
+ghost use Rattle.paper.specs.Diff.{check};
+ghost use Rattle.record.specs.Heads.{said_head};
+ghost use Rattle.diff.specs.Whole.{said_whole};
 
 use record::block::Block;
-use record::head::{Head, HeadSaid};
+use record::head::Head;
 use record::records;
-use record::records::RecordsSaid;
+use record::records::Checked;
 use record::refusal::Refusal;
 
 // "under 24 bytes, mark, BadHead, TooMany, CutOff, Tail, then record after record, mark before address"
-pub fn check(d: &[u8]) -> HeadSaid
+pub fn check(d: &[u8]) -> Result<Head, Refusal>
     ensures { said_head result ≡ check d.now }
 {
-    let said = Head::read(d);
-    match said {
-        HeadSaid::No(r) => HeadSaid::No(r),
-        HeadSaid::Sound(h) => check_body(d, h),
-    }
-}
-
-// The rest of the check, where the head h has passed.
-fn check_body(d: &[u8], h: Head) -> HeadSaid
-    requires { read_head d.now ≡ answer (head h) }
-    ensures { said_head result ≡ check d.now }
-{
+    let h = Head::read(d)?;
     let n = h.n as usize;
     let size = Head::SIZE + Block::SIZE * n;
     if d.len() < size {
-        return HeadSaid::No(Refusal::CutOff);
+        return Err(Refusal::CutOff);
     }
     if d.len() > size {
-        return HeadSaid::No(Refusal::Tail);
+        return Err(Refusal::Tail);
     }
-    let said = records::check_records(d, n);
-    match said {
-        RecordsSaid::No(r) => HeadSaid::No(r),
-        RecordsSaid::Sound => HeadSaid::Sound(h),
-    }
+    records::check_records(d, n)?;
+    Ok(h)
+}
+
+// The diff itself, where it passes.
+pub fn whole<'a>(d: &'a [u8]) -> Result<Checked<'a>, Refusal>
+    ensures says { said_whole result ≡ check d.now }
+    ensures kept { IfOk result (λ c. c.d ≡ d.entry) }
+{
+    let h = check(d)?;
+    Ok(Checked { d, h })
 }
