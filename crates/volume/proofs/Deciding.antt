@@ -1,16 +1,17 @@
 -- What deciding and the lag answer, case by case: the first check that refuses, and where none does, the further states or the difference.
 use Prim.Native.Nat.{ℕ, ◌≤◌, ◌<◌}
-use mathlib.Core.Path.{◌≡◌}
+use mathlib.Core.Path.{◌≡◌, sym}
 use mathlib.Core.List.{List}
 use mathlib.Core.Bool.{true, false}
 use lib.IntN.{pos, ◌-ℤ◌}
 use borrow.Author.Tests.{le-leb, lt-leb, lt-ltb, le-ltb}
 use Rattle.paper.specs.Limits.{max_gid}
-use Rattle.paper.specs.Answer.{answer, refuse, Outside, Behind, Gap, Short, NotExact, BadGid}
-use Rattle.paper.specs.Image.{check_image}
-use Rattle.paper.specs.Diff.{Head, is_compared, check, names_outside}
+use Rattle.paper.specs.Answer.{answer, refuse, ◌then◌, Behind, Gap, Short, NotExact, BadGid}
+use Rattle.paper.specs.Diff.{Head, is_compared, check}
 use Rattle.paper.specs.State.{State, read_state}
 use Rattle.paper.specs.Volume.{exact, not_exact, while_state, done_state, decide_on, decide, lag}
+use Rattle.record.specs.Records.{fits}
+use Rattle.record.proofs.Passing.{fits_then}
 
 -- ---- rules 11 to 14
 
@@ -41,37 +42,19 @@ module _ (h : Head) (s : State) where
 
 -- ---- the checks before them
 
-module _ (d state img : List ℕ) where
-  pub diff_no : (k : ℕ) → check d ≡ refuse k → refuse k ≡ decide d state img
-  unfolding decide
-  diff_no k e = rw e
+-- the diff's refusal is the first
+pub diff_no : (d saved img : List ℕ) (k : ℕ) → refuse k ≡ check d → refuse k ≡ decide d saved img
+unfolding decide
+diff_no d saved img k e = rw (sym e)
 
-  module _ (h : Head) (sound : check d ≡ answer h) where
-    pub state_no : (k : ℕ) → read_state state ≡ refuse k → refuse k ≡ decide d state img
-    unfolding decide
-    state_no k e = rw (sound, e)
-
-    module _ (s : State) (reads : read_state state ≡ answer s) where
-      pub image_no : (k : ℕ) → check_image img ≡ refuse k → refuse k ≡ decide d state img
-      unfolding decide
-      image_no k e = rw (sound, reads, e)
-
-      module _ (m : ℕ) (blocks : check_image img ≡ answer m) where
-        pub outside_no : names_outside d 0 h.n m ≡ true → refuse Outside ≡ decide d state img
-        unfolding decide
-        outside_no e = rw (sound, reads, blocks, e)
-
-        pub values_decide : names_outside d 0 h.n m ≡ false → decide_on h s ≡ decide d state img
-        unfolding decide
-        values_decide e = rw (sound, reads, blocks, e)
+-- where the diff has passed and the state is read, the image decides, and then the values
+pub then_image : (d saved img : List ℕ) (h : Head) (s : State) → check d ≡ answer h → read_state saved ≡ answer s → decide d saved img ≡ (fits d h.n img then λ m. decide_on h s)
+unfolding decide
+then_image d saved img h s e f = rw (e, f) (fits_then d h.n img (λ m. decide_on h s))
 
 -- ---- the lag
 
 module _ (state : List ℕ) (target : ℕ) where
-  pub lag_no : (k : ℕ) → read_state state ≡ refuse k → refuse k ≡ lag state target
-  unfolding lag
-  lag_no k e = rw e
-
   module _ (s : State) (reads : read_state state ≡ answer s) where
     pub gid_no : max_gid < target → refuse BadGid ≡ lag state target
     unfolding lag

@@ -1,49 +1,51 @@
 -- What a read-through answers, case by case: the first check that refuses, and where none does, the place of block a, which lies within its slice.
 use Prim.Native.Nat.{ℕ, ◌+◌, ◌-◌, ◌*◌, ◌≤◌, ◌<◌}
-use mathlib.Core.Path.{◌≡◌, refl, ap}
+use mathlib.Core.Path.{◌≡◌, refl, sym, ap, ◌∙◌}
 use mathlib.Core.Option.{Option, none, some}
 use mathlib.Core.List.{List, []}
-use mathlib.Core.Bool.{true, false}
 use native.Mathlib.Nat.{add_comm}
 use native.Mathlib.Omega.{arith}
+use lib.Dec.{leb}
 use lib.ListN.{length, take, drop}
 use borrow.Author.Tests.{le-leb, lt-leb}
 use Rattle.paper.specs.Limits.{block_bytes, max_blocks}
-use Rattle.paper.specs.Answer.{Said, answer, refuse, number, Outside}
+use Rattle.paper.specs.Answer.{Said, answer, refuse, guard, ◌then◌, number, Outside}
 use Rattle.paper.specs.Image.{check_image}
 use Rattle.paper.specs.Diff.{Head, check, seek, names_outside}
 use Rattle.paper.specs.Volume.{View, in_diff, in_image, shown, view_of, read_through, seen}
 use Rattle.paper.proofs.Check.{Sound, sound}
 use Rattle.paper.proofs.Names.{seek_sound}
 use Rattle.paper.proofs.Views.{reads_through}
-use Rattle.volume.specs.Views.{place_of}
+use Rattle.std.specs.Prelude.{Result, Ok}
+use Rattle.record.specs.declared.refusal.Refusal.{Refusal}
+use Rattle.record.specs.Records.{fits}
+use Rattle.record.proofs.Passing.{goes_on, fits_then, guard_both}
+use Rattle.volume.specs.declared.view.Place.{Place}
+use Rattle.volume.specs.Views.{view, said_place, place_of}
 
-module _ (d img : List ℕ) (a : ℕ) where
-  pub diff_no : (k : ℕ) → check d ≡ refuse k → refuse k ≡ read_through d img a
-  unfolding read_through
-  diff_no k e = rw e
+-- where the diff has passed the image decides, and then a and the lookup
+pub then_look : (d img : List ℕ) (a : ℕ) (h : Head) → check d ≡ answer h
+    → read_through d img a ≡ (fits d h.n img then λ m. guard (leb m a) Outside (answer (view_of a (seek d a 0 h.n))))
+unfolding read_through
+then_look d img a h e =
+    rw e
+    ((λ i. check_image img then λ m. guard_both (names_outside d 0 h.n m) (leb m a) Outside (answer (view_of a (seek d a 0 h.n))) i)
+    ∙ fits_then d h.n img (λ m. guard (leb m a) Outside (answer (view_of a (seek d a 0 h.n)))))
 
-  module _ (h : Head) (passed : check d ≡ answer h) where
-    pub image_no : (k : ℕ) → check_image img ≡ refuse k → refuse k ≡ read_through d img a
-    unfolding read_through
-    image_no k e = rw (passed, e)
+module _ (d img : List ℕ) (a : ℕ) (h : Head) (passed : check d ≡ answer h) (m : ℕ) (fitting : answer m ≡ fits d h.n img) where
+  pub beyond_no : m ≤ a → refuse Outside ≡ read_through d img a
+  beyond_no l = sym (then_look d img a h passed ∙ goes_on _ _ m fitting ∙ rw (le-leb m a l))
 
-    module _ (m : ℕ) (blocks : check_image img ≡ answer m) where
-      pub outside_no : names_outside d 0 h.n m ≡ true → refuse Outside ≡ read_through d img a
-      unfolding read_through
-      outside_no e = rw (passed, blocks, e)
-
-      pub beyond_no : names_outside d 0 h.n m ≡ false → m ≤ a → refuse Outside ≡ read_through d img a
-      unfolding read_through
-      beyond_no e l = rw (passed, blocks, e, le-leb m a l)
-
-      pub looked_up : (o : Option ℕ) → names_outside d 0 h.n m ≡ false → a < m → seek d a 0 h.n ≡ o → answer (view_of a o) ≡ read_through d img a
-      unfolding read_through
-      looked_up o e l s = rw (passed, blocks, e, lt-leb m a l, s)
+  pub looked_up : (o : Option ℕ) → a < m → o ≡ seek d a 0 h.n → answer (view_of a o) ≡ read_through d img a
+  looked_up o l s = sym (then_look d img a h passed ∙ goes_on _ _ m fitting ∙ rw (lt-leb m a l, s))
 
 -- a record that is found is one of those that a diff can have
 pub found_low : {h : Head} {i : ℕ} (d : List ℕ) (a : ℕ) → check d ≡ answer h → seek d a 0 h.n ≡ some i → i < max_blocks
 found_low {h} d a passed e = let s = seek_sound d a 0 h.n e in omega (arith, (sound passed).few)
+
+-- the place that a call answers is the view that is said
+pub place_read : {D : Said View} {r : Result Place Refusal} {p q : Place} → said_place r ≡ D → r ≡ Ok p → p ≡ q → D ≡ answer (view q)
+place_read e f g = sym e ∙ ap said_place (f ∙ ap Ok g)
 
 -- a view lies within its slice
 abbrev pub within : List ℕ → List ℕ → View → Type 0

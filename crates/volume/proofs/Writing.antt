@@ -8,19 +8,18 @@ use native.Mathlib.Numerals.{add-one}
 use native.Mathlib.Decide.{ℕ_discrete, dec_le}
 use native.Mathlib.Omega.{arith}
 use lib.ListN.{length, get_or, take, drop, length-append, get_or-append}
-use lib.Seq.{get_or-append-add, get_or-take, get_or-drop, length-take-le}
+use lib.Seq.{get_or-append-add, get_or-take, get_or-drop, length-take-le, take_all}
 use borrow.Rule.Slice.PartMut.{put_mid}
+use Rattle.paper.specs.Answer.{answer}
 use Rattle.paper.specs.Image.{Map, byte_after, overlay}
-use Rattle.paper.specs.Diff.{Head, rest, address_of, content_of, seek, named_by}
+use Rattle.paper.specs.Diff.{Head, rest, address_of, content_of, check, seek, named_by}
 use Rattle.paper.specs.Merge.{second_else_first, merged}
 use Rattle.paper.proofs.Images.{overlay_same}
 use Rattle.paper.proofs.Overlay.{is_overlay, overlay_overlay}
 use Rattle.paper.proofs.Check.{Sound, sound}
 use Rattle.paper.proofs.Names.{named_by_none, named_by_here, named_by_later, content_length, outside_means}
-use Rattle.paper.proofs.Views.{content_place}
 use Rattle.number.specs.Put.{put}
 use Rattle.number.proofs.Puts.{put_length}
-use Rattle.number.proofs.Puts.{part_all}
 use Rattle.record.proofs.Stores.{put_part}
 use Rattle.volume.specs.Writes.{Writable}
 
@@ -105,53 +104,49 @@ module _ {d : List ℕ} {h : Head} (s : Sound d h) (j : ℕ) where
 
 -- ---- the turns
 
--- the writing before record j: img₀ is the image as it was lent, img as it stands
-pub record Writing (d : List ℕ) (i end : ℕ) (img₀ img : List ℕ) (j : ℕ) : Type 0 where
-  pub head : Head
-  pub may : Writable d head j end img
+-- the writing before record j of a diff with head h: img₀ is the image as it was lent, img as it stands
+pub record Writing (d : List ℕ) (h : Head) (i end : ℕ) (img₀ img : List ℕ) (j : ℕ) : Type 0 where
+  pub may : Writable d h j end img
   pub long : length img ≡ length img₀
   pub left : overlay img₀ (named_by d i (end - i)) ≡ overlay img (named_by d j (end - j))
 
--- what a turn finds: record j stands in the diff, and its block in the image
-pub record Turn (d img : List ℕ) (j : ℕ) : Type 0 where
-  pub diff : 24 + 518 * j + 518 ≤ length d
-  pub few : j < 65536
-  pub image : 512 * address_of (rest d j) + 512 ≤ length img
+pub write_begins : (d : List ℕ) (h : Head) (i end : ℕ) (img : List ℕ) → Writable d h i end img → Writing d h i end img img i
+write_begins d h i end img w = record { may = w; long = refl; left = refl }
 
-pub write_begins : (d : List ℕ) (h : Head) (i end : ℕ) (img : List ℕ) → Writable d h i end img → Writing d i end img img i
-write_begins d h i end img w = record { head = h; may = w; long = refl; left = refl }
+module _ {d img₀ img : List ℕ} {h : Head} {i end j : ℕ} (w : Writing d h i end img₀ img j) where
+  -- record j stands in the diff
+  pub stands : j < end → j < h.n
+  stands l = omega (arith, w.may.within)
 
-pub turn : {d img₀ img : List ℕ} {i end j : ℕ} → Writing d i end img₀ img j → j < end → Turn d img j
-turn {d} {img₀} {img} {i} {end} {j} w l =
-    let may = w.may in
-    let s = sound may.sound in
-    let below = (outside_means d w.head.n (length img / 512)).0 may.inside j (omega arith) in
-    record { diff = omega (arith, s.long); few = omega (arith, s.few); image = omega arith }
+  -- and its block in the image
+  pub block_stands : j < end → 512 * address_of (rest d j) + 512 ≤ length img
+  block_stands l =
+      let below = (outside_means d h.n (length img / 512)).0 w.may.inside j (stands l) in
+      omega arith
 
--- record j at x, y in the image's part from there on
-pub write_goes_on : {d img₀ img : List ℕ} {i end j : ℕ} (x : ℕ) (y : List ℕ) → Writing d i end img₀ img j → j < end → x ≡ address_of (rest d j)
-    → y ≡ take 512 (take (length d - (24 + 518 * j + 6)) (drop (24 + 518 * j + 6) d)) ++ drop 512 (take (length img - 512 * x) (drop (512 * x) img))
-    → Writing d i end img₀ (put_mid (512 * x) (length img - 512 * x) img y) (j + 1)
-write_goes_on {d} {img₀} {img} {i} {end} {j} x y w l e f =
-    let may = w.may in
-    let s = sound may.sound in
-    let content : take 512 (take (length d - (24 + 518 * j + 6)) (drop (24 + 518 * j + 6) d)) ≡ content_of (rest d j) = rw part_all (content_place d j) in
-    let whole = content_length s j (omega arith) in
-    let put_there : put_mid (512 * x) (length img - 512 * x) img y ≡ put (512 * x) (content_of (rest d j)) img =
-    put_part (512 * x) 512 (content_of (rest d j)) y img whole (rw (← content) f) in
-    let inside = (turn w l).image in
-    let kept : length (put (512 * x) (content_of (rest d j)) img) ≡ length img = put_length (512 * x) (content_of (rest d j)) img (omega arith) in
-    let more : end - j ≡ suc (end - suc j) = omega arith in
-    let step = write_more s j img (end - suc j) (omega arith) inside in
-    rw put_there
-    (record {
-      head = w.head;
-      may = record { sound = may.sound; order = omega arith; within = may.within; inside = rw kept may.inside };
-      long = kept ∙ w.long;
-      left = w.left ∙ rw (more, e, add-one) step;
-    })
+  -- record j at x, y in the image's part from there on
+  pub write_goes_on : check d ≡ answer h → (x : ℕ) (c y : List ℕ) → j < end → x ≡ address_of (rest d j) → c ≡ content_of (rest d j)
+      → y ≡ take 512 c ++ drop 512 (take (length img - 512 * x) (drop (512 * x) img))
+      → Writing d h i end img₀ (put_mid (512 * x) (length img - 512 * x) img y) (j + 1)
+  write_goes_on passed x c y l e k f =
+      let may = w.may in
+      let s = sound passed in
+      let whole = content_length s j (stands l) in
+      let content : take 512 c ≡ content_of (rest d j) = rw k (take_all 512 (content_of (rest d j)) (omega (arith, whole))) in
+      let put_there : put_mid (512 * x) (length img - 512 * x) img y ≡ put (512 * x) (content_of (rest d j)) img =
+      put_part (512 * x) 512 (content_of (rest d j)) y img whole (rw (← content) f) in
+      let inside = block_stands l in
+      let kept : length (put (512 * x) (content_of (rest d j)) img) ≡ length img = put_length (512 * x) (content_of (rest d j)) img (omega arith) in
+      let more : end - j ≡ suc (end - suc j) = omega arith in
+      let step = write_more s j img (end - suc j) (omega (arith, may.within)) inside in
+      rw put_there
+      (record {
+        may = record { order = omega arith; within = may.within; inside = rw kept may.inside };
+        long = kept ∙ w.long;
+        left = w.left ∙ rw (more, e, add-one) step;
+      })
 
-pub write_ends : {d img₀ img : List ℕ} {i end j : ℕ} → Writing d i end img₀ img j → end ≤ j → img ≡ overlay img₀ (named_by d i (end - i))
-write_ends {d} {img₀} {img} {i} {end} {j} w l =
-    let none_left : end - j ≡ 0 = omega arith in
-    sym (w.left ∙ rw none_left (overlay_nothing img d j))
+  pub write_ends : end ≤ j → img ≡ overlay img₀ (named_by d i (end - i))
+  write_ends l =
+      let none_left : end - j ≡ 0 = omega arith in
+      sym (w.left ∙ rw none_left (overlay_nothing img d j))

@@ -1,10 +1,8 @@
 -- What the lag answers.
-use Rattle.std.specs.Prelude.{ℤ}
-use Rattle.paper.specs.Answer.{Said, answer, refuse}
-use Rattle.record.specs.Refusals.{number_of}
-use Rattle.volume.specs.declared.lag.LagSaid.{LagSaid}
-use Rattle.volume.specs.declared.lag.LagSaid.TheVariants.{Gids, No}
+use Rattle.std.specs.Prelude.{ℤ, Result}
+use Rattle.paper.specs.Answer.{Said}
+use Rattle.record.specs.declared.refusal.Refusal.{Refusal}
+use Rattle.record.specs.Refusals.{said}
 
-abbrev pub said_lag : LagSaid → Said ℤ
-said_lag (Gids n) = answer n
-said_lag (No r) = refuse (number_of r)
+abbrev pub said_lag : Result ℤ Refusal → Said ℤ
+said_lag = said (λ n. n)

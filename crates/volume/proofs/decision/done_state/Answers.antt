@@ -1,7 +1,7 @@
--- `done_state` meets its contract: each field is the one that the definition of that name gives.
+-- Each field is the one that the definition of that name gives.
 use Rattle.paper.specs.Volume.{done_state}
 use Rattle.volume.proofs.decision.done_state.Goals as goal
 
 pub returns : goal.returns
 unfolding done_state
-returns c = rw c.larger.ensures
+returns c = rw c.max.ensures

@@ -1,12 +1,11 @@
--- `is_pair_while` meets its contract: a compared diff makes a pair, and of any other diff the test is whether the state was clean.
-use borrow.Author.Tests.{eq-eqb, ne_eqb}
+-- A compared diff makes a pair, and of any other the test is whether the state was clean.
 use Rattle.paper.specs.Volume.{is_pair_while}
 use Rattle.volume.proofs.decision.is_pair_while.Goals as goal
 
-pub returns-then-h-eq1 : goal.returns-then-h-eq1
+pub returns-then-is_compared : goal.returns-then-is_compared
 unfolding is_pair_while
-returns-then-h-eq1 c = rw (eq-eqb _ 1 c.if-h-eq1.true)
+returns-then-is_compared c = rw (← c.is_compared.ensures, c.if-is_compared.true)
 
-pub returns : goal.returns
+pub returns-else-is_compared : goal.returns-else-is_compared
 unfolding is_pair_while
-returns c = rw (ne_eqb _ 1 c.if-h-eq1.false) c.is_clean.ensures
+returns-else-is_compared c = rw (← c.is_compared.ensures, c.if-is_compared.false) c.is_clean.ensures
