@@ -2,37 +2,33 @@
 use Rattle.std.specs.Prelude.{ℕ, suc, ◌-◌, ◌≤◌, ◌<◌, min, ◌≡◌, List, ◌++◌, cond, ltb}
 use Rattle.std.proofs.Math.Option.{some}
 use Rattle.paper.specs.Limits.{max_blocks}
-use Rattle.paper.specs.Answer.{answer}
 use Rattle.paper.specs.Image.{Map}
-use Rattle.paper.specs.Diff.{Head, rest, address_of, record_bytes, check, named, records_of, count_of}
+use Rattle.paper.specs.Diff.{rest, address_of, record_bytes, named, records_of, count_of}
 use Rattle.paper.specs.Merge.{merged}
+use Rattle.record.specs.declared.records.Checked.{Checked}
 use Rattle.merge.specs.declared.Cursor.{Cursor}
+use Rattle.merge.specs.declared.Pair.{Pair}
 use Rattle.merge.specs.declared.Walk.{Walk}
 
--- Both diffs have passed the check, with these heads.
-pub record Passed (d₀ d₁ : List ℕ) (h₀ h₁ : Head) : Type 0 where
-  pub first : check d₀ ≡ answer h₀
-  pub second : check d₁ ≡ answer h₁
-
 -- the map that the merge of two diffs means
-abbrev pub both : List ℕ → List ℕ → Map
-both d₀ d₁ = merged (named d₀) (named d₁)
+abbrev pub both : Pair → Map
+both p = merged (named p.first.d.now) (named p.second.d.now)
 
--- the address of record i of the n records of d, or 65,536 past the last
-unfoldable pub address_at : List ℕ → ℕ → ℕ → ℕ
-address_at d n i = cond (ltb i n) (address_of (rest d i)) max_blocks
+-- the address of record i of a diff, or 65,536 past the last
+unfoldable pub address_at : Checked → ℕ → ℕ
+address_at x i = cond (ltb i x.h.n) (address_of (rest x.d.now i)) max_blocks
 
--- The cursor stands at a record of the n of d: those before it have addresses below `low`, its own is not.
-pub record On (d : List ℕ) (n low : ℕ) (c : Cursor) : Type 0 where
-  pub inside : c.place ≤ n
-  pub address : c.address ≡ address_at d n c.place
-  pub passed : (j : ℕ) → j < c.place → address_of (rest d j) < low
+-- The cursor stands at a record of the diff: those before it have addresses below `low`, its own is not.
+pub record On (x : Checked) (low : ℕ) (c : Cursor) : Type 0 where
+  pub inside : c.place ≤ x.h.n
+  pub address : c.address ≡ address_at x c.place
+  pub passed : (j : ℕ) → j < c.place → address_of (rest x.d.now j) < low
   pub ahead : low ≤ c.address
 
 -- A cursor on each of two diffs, and the lower address of the two: no lower one is left.
-pub record Walking (d₀ d₁ : List ℕ) (h₀ h₁ : Head) (w : Walk) : Type 0 where
-  pub first : On d₀ h₀.n w.low w.a
-  pub second : On d₁ h₁.n w.low w.b
+pub record Walking (p : Pair) (w : Walk) : Type 0 where
+  pub first : On p.first w.low w.a
+  pub second : On p.second w.low w.b
   pub lowest : w.low ≡ min w.a.address w.b.address
 
 -- ---- what a map has left
@@ -57,12 +53,12 @@ pub record Takes (f : Map) (a b : ℕ) : Type 0 where
   pub count : count_left f a ≡ suc (count_left f b)
 
 -- A walk that begins has all records left.
-pub record Begun (d₀ d₁ : List ℕ) (h₀ h₁ : Head) (w : Walk) : Type 0 where
-  pub walking : Walking d₀ d₁ h₀ h₁ w
-  pub same : SameLeft (both d₀ d₁) 0 w.low
+pub record Begun (p : Pair) (w : Walk) : Type 0 where
+  pub walking : Walking p w
+  pub same : SameLeft (both p) 0 w.low
 
 -- A turn of the walk goes past one record of the merge.
-pub record Turned (d₀ d₁ : List ℕ) (h₀ h₁ : Head) (w r : Walk) : Type 0 where
-  pub walking : Walking d₀ d₁ h₀ h₁ r
-  pub takes : Takes (both d₀ d₁) w.low r.low
+pub record Turned (p : Pair) (w r : Walk) : Type 0 where
+  pub walking : Walking p r
+  pub takes : Takes (both p) w.low r.low
   pub rises : w.low < r.low

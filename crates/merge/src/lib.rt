@@ -1,78 +1,42 @@
 // 01, "Moves of a volume": a merge of two log diffs that touch.
 #![tactic(auto)]
 
-ghost use Rattle.std.specs.Prelude.{◌≡◌, ◌++◌, ◌+◌, ◌*◌, ◌≤◌, ◌<◌, min, length, drop};
-ghost use Rattle.paper.specs.Answer.{answer, comes_back, over};
-ghost use Rattle.paper.specs.Diff.{check, rest, address_of, content_of, record_bytes, record_for, records_of, count_of};
-ghost use Rattle.paper.specs.Merge.{merge};
+ghost use Rattle.std.specs.Prelude.{◌≡◌, ◌++◌, ◌+◌, ◌*◌, ◌≤◌, ◌<◌, length, drop};
+ghost use Rattle.paper.specs.Answer.{comes_back, over};
+ghost use Rattle.paper.specs.Diff.{rest, address_of, content_of, record_bytes, record_for, records_of, count_of};
+ghost use Rattle.paper.specs.Merge.{merge_heads, merge};
 ghost use Rattle.number.specs.Put.{put};
-ghost use Rattle.record.specs.Heads.{head};
+ghost use Rattle.record.specs.Heads.{head, said_head};
 ghost use Rattle.record.specs.States.{said_length};
-ghost use Rattle.merge.specs.Walks.{Passed, both, address_at, On, Walking, Begun, Turned};
-ghost use Rattle.merge.specs.Gives.{Gives};
+ghost use Rattle.merge.specs.Walks.{both, address_at, On, Walking, Begun, Turned};
 
 use record::block::Block;
-use record::head::{Head, HeadSaid};
-use record::records;
+use record::head::Head;
+use record::records::Checked;
 use record::refusal::Refusal;
-use record::state::Written;
 
 // "A merge checks first diff, second diff, 15, 16, 17." The result goes to `out`, and its length is answered.
-pub fn merge(first: &[u8], second: &[u8], out: &mut [u8]) -> Written
+// Nothing is written before every check has passed.
+pub fn merge(first: &[u8], second: &[u8], out: &mut [u8]) -> Result<usize, Refusal>
     ensures answered { said_length result ≡ comes_back (merge first.now second.now (length out.old)) }
     ensures leaves { out.new ≡ over out.old (merge first.now second.now (length out.old)) }
 {
-    let said = diff::check(first);
-    match said {
-        HeadSaid::No(r) => Written::No(r),
-        HeadSaid::Sound(h) => merge_second(first, second, h, out),
-    }
-}
-
-// The rest of a merge, where the first diff has passed with head h0.
-fn merge_second(first: &[u8], second: &[u8], h0: Head, out: &mut [u8]) -> Written
-    requires { check first.now ≡ answer (head h0) }
-    ensures { Gives out.old (merge first.now second.now (length out.old)) (said_length result) out.new }
-{
-    let said = diff::check(second);
-    match said {
-        HeadSaid::No(r) => Written::No(r),
-        HeadSaid::Sound(h) => merge_sound(first, second, h0, h, out),
-    }
-}
-
-// The rest of a merge, where both diffs have passed. Nothing is written before every check has passed.
-fn merge_sound(first: &[u8], second: &[u8], h0: Head, h1: Head, out: &mut [u8]) -> Written
-    requires { Passed first.now second.now (head h0) (head h1) }
-    ensures { Gives out.old (merge first.now second.now (length out.old)) (said_length result) out.new }
-{
-    if h0.kind == 1 {
-        return Written::No(Refusal::Compared);
-    }
-    if h1.kind == 1 {
-        return Written::No(Refusal::Compared);
-    }
-    if h0.q != h1.p {
-        return Written::No(Refusal::Apart);
-    }
-    let n = count_records(first, second, h0, h1);
+    let first = diff::whole(first)?;
+    let second = diff::whole(second)?;
+    let pair = Pair { first, second };
+    let h = pair.merge_heads()?;
+    let n = pair.count_records();
     let size = Head::SIZE + Block::SIZE * n;
     if out.len() < size {
-        return Written::No(Refusal::NoRoom);
+        return Err(Refusal::NoRoom);
     }
-    let h = Head {
-        kind: 0,
-        spare: 0,
-        p: h0.p,
-        q: h1.q,
-        n: n as u32,
-    };
-    h.write(out);
-    write_records(first, second, h0, h1, out);
-    Written::Bytes(size)
+    Head { n: n as u32, ..h }.write(out);
+    pair.write_records(n, out);
+    Ok(size)
 }
 
-// One past the largest address: where a diff has no record left.
+// One past the largest address: where a diff has no record left. It is above every address, so the lower of two is one `min`;
+// an Option there would need an order of its own, None last.
 const END: u32 = 65_536;
 
 // A record of a diff, with its address; past the last record, with END.
@@ -82,43 +46,40 @@ struct Cursor {
     address: u32,
 }
 
-// The cursor at record i of d, which passed with head h.
-fn cursor_at(d: &[u8], h: Head, i: usize) -> Cursor
-    requires { check d.now ≡ answer (head h) }
-    ensures { (result.place ≡ i) × (result.address ≡ address_at d.now h.n i) }
+// The cursor at record i.
+fn cursor_at(diff: Checked, i: usize) -> Cursor
+    ensures { (result.place ≡ i) × (result.address ≡ address_at diff.entry i) }
 {
-    if i < h.n as usize {
-        let address = records::address(d, i);
-        return Cursor { place: i, address };
-    }
-    Cursor {
-        place: i,
-        address: END,
-    }
+    let address = if i < diff.count() {
+        diff.address(i)
+    } else {
+        END
+    };
+    Cursor { place: i, address }
 }
 
 // The cursor past address `low`: the next record, if c stands at that address.
-fn past(d: &[u8], h: Head, c: Cursor, low: u32) -> Cursor
-    requires passed { check d.now ≡ answer (head h) }
-    requires standing { On d.now h.n low c × (low < 65536) }
-    ensures { On d.now h.n (low + 1) result }
+fn past(diff: Checked, c: Cursor, low: u32) -> Cursor
+    requires { On diff low c × (low < 65536) }
+    ensures { On diff.entry (low + 1) result }
 {
     if c.address > low {
-        return c;
+        c
+    } else {
+        cursor_at(diff, c.place + 1)
     }
-    cursor_at(d, h, c.place + 1)
 }
 
-fn lower(x: u32, y: u32) -> u32
-    ensures { result ≡ min x y }
+// Puts record i, whole, where `out` opens.
+fn put_record(diff: Checked, i: usize, out: &mut [u8])
+    requires { (i < diff.h.n) × (518 ≤ length out.old) }
+    ensures { out.new ≡ record_bytes (address_of (rest diff.entry.d.now i)) (content_of (rest diff.entry.d.now i)) ++ drop 518 out.old }
 {
-    if x < y {
-        return x;
-    }
-    y
+    number::copy::<{ Block::SIZE }>(out, diff.record(i));
 }
 
-// A cursor on each diff, and the lower of their addresses; END where both are past the last record.
+// A cursor on each diff, and the lower of their addresses; END where both are past the last record. It holds no pair: the diffs stay while it moves,
+// and `Walking` is said of both, so an invariant would have the pair copied at each turn.
 #[derive(Clone, Copy)]
 struct Walk {
     a: Cursor,
@@ -126,83 +87,100 @@ struct Walk {
     low: u32,
 }
 
-// The walk over both diffs, at its first address.
-fn begin(first: &[u8], second: &[u8], h0: Head, h1: Head) -> Walk
-    requires { Passed first.now second.now (head h0) (head h1) }
-    ensures { Begun first.now second.now (head h0) (head h1) result }
-{
-    let a = cursor_at(first, h0, 0);
-    let b = cursor_at(second, h1, 0);
-    Walk {
-        a,
-        b,
-        low: lower(a.address, b.address),
+// Two diffs that passed the check.
+#[derive(Clone, Copy)]
+struct Pair<'a> {
+    first: Checked<'a>,
+    second: Checked<'a>,
+}
+
+impl<'a> Pair<'a> {
+    // 15, then 16: the merge's head, but for its count.
+    #[tactic(auto, unfolding(paper::specs::Merge::merge_heads))]
+    fn merge_heads(self) -> Result<Head, Refusal>
+        ensures { said_head result ≡ merge_heads (head self.entry.first.h) (head self.entry.second.h) }
+    {
+        if self.first.h.is_compared() {
+            return Err(Refusal::Compared);
+        }
+        if self.second.h.is_compared() {
+            return Err(Refusal::Compared);
+        }
+        if self.first.h.q != self.second.h.p {
+            return Err(Refusal::Apart);
+        }
+        Ok(Head {
+            kind: Head::LOG,
+            spare: 0,
+            p: self.first.h.p,
+            q: self.second.h.q,
+            n: 0,
+        })
     }
-}
 
-// The walk past its address: where both diffs name it, both go on.
-fn turn(first: &[u8], second: &[u8], h0: Head, h1: Head, w: Walk) -> Walk
-    requires passed { Passed first.now second.now (head h0) (head h1) }
-    requires walking { Walking first.now second.now (head h0) (head h1) w × (w.low < 65536) }
-    ensures { Turned first.now second.now (head h0) (head h1) w result }
-{
-    let a = past(first, h0, w.a, w.low);
-    let b = past(second, h1, w.b, w.low);
-    Walk {
-        a,
-        b,
-        low: lower(a.address, b.address),
+    // The walk over both diffs, at its first address.
+    fn begin(self) -> Walk
+        ensures { Begun self.entry result }
+    {
+        let a = cursor_at(self.first, 0);
+        let b = cursor_at(self.second, 0);
+        Walk {
+            a,
+            b,
+            low: a.address.min(b.address),
+        }
     }
-}
 
-// The number of blocks that either diff names.
-fn count_records(first: &[u8], second: &[u8], h0: Head, h1: Head) -> usize
-    requires { Passed first.now second.now (head h0) (head h1) }
-    ensures { (result ≡ count_of (both first.now second.now) 0 65536) × (result ≤ 65536) }
-{
-    let mut w = begin(first, second, h0, h1);
-    let mut n: usize = 0;
-    while w.low < END {
-        w = turn(first, second, h0, h1, w);
-        n += 1;
+    // The walk past its address: where both diffs name it, both go on.
+    fn turn(self, w: Walk) -> Walk
+        requires { Walking self w × (w.low < 65536) }
+        ensures { Turned self.entry w result }
+    {
+        let a = past(self.first, w.a, w.low);
+        let b = past(self.second, w.b, w.low);
+        Walk {
+            a,
+            b,
+            low: a.address.min(b.address),
+        }
     }
-    n
-}
 
-// Puts record i of d, whole, where `out` opens.
-fn put_record(d: &[u8], h: Head, i: usize, out: &mut [u8])
-    requires passed { check d.now ≡ answer (head h) }
-    requires room { (i < h.n) × (518 ≤ length out.old) }
-    ensures { out.new ≡ record_bytes (address_of (rest d.now i)) (content_of (rest d.now i)) ++ drop 518 out.old }
-{
-    let at = Head::SIZE + Block::SIZE * i;
-    number::copy_record(out, &d[at..])
-}
-
-// Puts the record of the walk's address where `out` opens: "the second diff's block where it names one, else the first's".
-fn put_lowest(first: &[u8], second: &[u8], h0: Head, h1: Head, w: Walk, out: &mut [u8])
-    requires passed { Passed first.now second.now (head h0) (head h1) }
-    requires walking { Walking first.now second.now (head h0) (head h1) w × (w.low < 65536) × (518 ≤ length out.old) }
-    ensures { out.new ≡ record_for w.low (both first.now second.now w.low) ++ drop 518 out.old }
-{
-    if w.b.address > w.low {
-        put_record(first, h0, w.a.place, out)
-    } else {
-        put_record(second, h1, w.b.place, out)
+    // The number of blocks that either diff names.
+    fn count_records(self) -> usize
+        ensures { (result ≡ count_of (both self.entry) 0 65536) × (result ≤ 65536) }
+    {
+        let mut w = self.begin();
+        let mut n: usize = 0; // the walk has no index: it ends where both diffs do
+        while w.low < END {
+            w = self.turn(w);
+            n += 1;
+        }
+        n
     }
-}
 
-// Puts the records of the merge after the head.
-fn write_records(first: &[u8], second: &[u8], h0: Head, h1: Head, out: &mut [u8])
-    requires passed { Passed first.now second.now (head h0) (head h1) }
-    requires room { 24 + 518 * count_of (both first.now second.now) 0 65536 ≤ length out.old }
-    ensures { out.new ≡ put 24 (records_of (both first.now second.now) 0 65536) out.old }
-{
-    let mut w = begin(first, second, h0, h1);
-    let mut at: usize = Head::SIZE;
-    while w.low < END {
-        put_lowest(first, second, h0, h1, w, &mut out[at..]);
-        w = turn(first, second, h0, h1, w);
-        at += Block::SIZE;
+    // Puts the record of the walk's address where `out` opens: "the second diff's block where it names one, else the first's".
+    fn put_lowest(self, w: Walk, out: &mut [u8])
+        requires { Walking self w × (w.low < 65536) × (518 ≤ length out.old) }
+        ensures { out.new ≡ record_for w.low (both self.entry w.low) ++ drop 518 out.old }
+    {
+        if w.b.address > w.low {
+            put_record(self.first, w.a.place, out);
+        } else {
+            put_record(self.second, w.b.place, out);
+        }
+    }
+
+    // Puts the n records of the merge after the head.
+    fn write_records(self, n: usize, out: &mut [u8])
+        requires counted { n ≡ count_of (both self) 0 65536 }
+        requires room { 24 + 518 * n ≤ length out.old }
+        ensures { out.new ≡ put 24 (records_of (both self.entry) 0 65536) out.old }
+    {
+        let mut w = self.begin();
+        for i in 0..n {
+            let at = Head::SIZE + Block::SIZE * i;
+            self.put_lowest(w, &mut out[at..]);
+            w = self.turn(w);
+        }
     }
 }

@@ -1,14 +1,32 @@
--- The first diff is checked: its refusal is the answer, else it has passed.
-use mathlib.Core.Path.{sym, ap, ◌∙◌}
-use Rattle.record.specs.Heads.{said_head}
-use Rattle.merge.proofs.Answers.{first_no}
+-- One check after another in 01's order; where none refuses, the head and then the records are put, and nothing before.
+use mathlib.Core.Path.{sym}
+use native.Mathlib.Omega.{arith}
+use Rattle.paper.proofs.Answers.{refused, both}
+use Rattle.record.specs.Heads.{head}
+use Rattle.merge.specs.declared.Pair.{Pair}
+use Rattle.record.proofs.Passing.{hands_back}
+use Rattle.merge.proofs.Answers.{first_no, second_no, heads_no, no_room, all_written}
 use Rattle.merge.proofs.merge.Goals as goal
 
-pub merge_second-requires : goal.merge_second-requires
-merge_second-requires c = sym c.check-said.ensures ∙ ap said_head c.in-Sound.is
+pub returns-in_err-first : goal.returns-in_err-first
+returns-in_err-first c = hands_back _ _ _ _ c.from_residual.ensures.1 (sym (first_no _ _ _ _ (sym c.in_err-first.ensures.says)))
 
-pub returns-in-No : goal.returns-in-No
-returns-in-No c = let no = first_no _ _ _ _ (sym c.check-said.ensures ∙ ap said_head c.in-No.is) in record { answered = no.answered; leaves = no.leaves }
+pub returns-in_err-second : goal.returns-in_err-second
+returns-in_err-second c =
+    hands_back _ _ _ _ c.from_residual-in_err-second.ensures.1 (sym (second_no _ _ _ _ _ (sym c.in_ok-first.ensures.says) (sym c.in_err-second.ensures.says)))
 
-pub returns-in-Sound : goal.returns-in-Sound
-returns-in-Sound c = let rest = c.merge_second.ensures in record { answered = rest.answered; leaves = rest.leaves }
+pub returns-in_err-h : goal.returns-in_err-h
+returns-in_err-h c =
+    let p : Pair = record { first = c.in_ok-first.first; second = c.in_ok-second.second } in
+    hands_back _ _ _ _ c.from_residual-in_err-h.ensures.1 (sym (heads_no p c.in_ok-first.ensures.kept c.in_ok-second.ensures.kept _ _ (sym c.in_err-h.ensures)))
+
+pub returns-then-out-size : goal.returns-then-out-size
+returns-then-out-size c =
+    let p : Pair = record { first = c.in_ok-first.first; second = c.in_ok-second.second } in
+    both (refused _ (no_room p c.in_ok-first.ensures.kept c.in_ok-second.ensures.kept _ (sym c.in_ok-h.ensures) _ c.count_records-n.ensures.0 _ (omega (arith, c.if-out-size.true))))
+
+pub returns : goal.returns
+returns c =
+    let p : Pair = record { first = c.in_ok-first.first; second = c.in_ok-second.second } in
+    both (all_written p c.in_ok-first.ensures.kept c.in_ok-second.ensures.kept (head c.in_ok-h.h) (sym c.in_ok-h.ensures) _ c.count_records-n.ensures.0 _ _ _
+    (omega (arith, c.if-out-size.false)) c.write.ensures c.write_records.ensures)
