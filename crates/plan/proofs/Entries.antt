@@ -1,25 +1,21 @@
--- The two loops over a shelf's entries: what is left to check says the same as the whole at every turn, and what was kept is the front of the shelf.
+-- A shelf's entries: what is left to check says the same as the whole at every turn, and what is kept is the front of the shelf.
 use Prim.Native.Nat.{ℕ, suc, ◌+◌, ◌-◌, ◌≤◌, ◌<◌}
 use mathlib.Core.Path.{◌≡◌, sym, ap, ◌∙◌}
-use mathlib.Core.List.{List, [], ◌∷◌, ◌++◌, map}
+use mathlib.Core.List.{◌++◌}
 use native.Mathlib.Numerals.{add-one}
 use native.Mathlib.Nat.{sub-zero}
 use native.Mathlib.Omega.{arith}
-use lib.ListN.{length, get_or, take, set, replicate, length-map, get_or-map}
-use lib.Seq.{take-suc, length-take-le}
+use lib.ListN.{get_or, take, drop, replicate, get_or-map}
+use Rattle.std.proofs.lemmas.List.{get_or-take, map-append, take-map, drop-replicate}
 use Rattle.paper.specs.Answer.{answer, refuse}
+use Rattle.paper.specs.Diff as Diff
 use Rattle.paper.specs.Diff.{check_head}
-use Rattle.paper.specs.Plan as Paper
 use Rattle.paper.specs.Plan.{entry, check_entries, kept_shelf}
 use Rattle.record.specs.declared.head.Head.{Head}
-use Rattle.record.specs.declared.head.HeadSaid.{HeadSaid}
-use Rattle.record.specs.declared.head.HeadSaid.TheVariants.{Sound, No}
-use Rattle.record.specs.declared.refusal.Refusal.{Refusal}
-use Rattle.record.specs.Refusals.{number_of}
-use Rattle.record.specs.Heads.{head, said_head}
+use Rattle.record.specs.Heads.{head}
 use Rattle.plan.specs.declared.shelf.Shelf.{Shelf}
 use Rattle.plan.specs.Shelves.{shelf}
-use Rattle.plan.proofs.Fills.{fill_one, map_set}
+use Rattle.plan.proofs.Fills.{map-replicate}
 
 -- what a place holds that was never filled
 abbrev pub blank : Head
@@ -32,52 +28,32 @@ entry_is on i = get_or-map head on.heads i blank
 -- ---- the check
 
 -- the check before entry i
-pub record Entering (on : Shelf) (i : ℕ) : Type 0 where
-  pub within : i ≤ on.count
-  pub left : check_entries (shelf on) 0 on.count ≡ check_entries (shelf on) i (on.count - i)
+abbrev pub Entering : Shelf → ℕ → Type 0
+Entering on i = check_entries (shelf on) 0 on.count ≡ check_entries (shelf on) i (on.count - i)
 
 pub entries_begin : (on : Shelf) → Entering on 0
-entries_begin on = record { within = omega arith; left = ap (λ (k : ℕ). check_entries (shelf on) 0 k) (sym (sub-zero on.count)) }
+entries_begin on = ap (λ (k : ℕ). check_entries (shelf on) 0 k) (sym (sub-zero on.count))
 
 module _ (on : Shelf) (i : ℕ) (so_far : Entering on i) where
-  module _ (r : HeadSaid) (more : i < on.count) (says : said_head r ≡ check_head (head (get_or on.heads i blank))) where
-    pub entry_passes : (h : Head) → r ≡ Sound h → Entering on (i + 1)
-    unfolding check_entries
-    entry_passes h e =
-        let k : on.count - i ≡ suc (on.count - (i + 1)) = omega arith in
-        record { within = omega arith; left = so_far.left ∙ rw (k, entry_is, ← says, e, add-one) }
+  pub entry_passes : (h : Diff.Head) → i < on.count → answer h ≡ check_head (head (get_or (take on.count on.heads) i blank)) → Entering on (i + 1)
+  unfolding check_entries
+  entry_passes h more says =
+      let k : on.count - i ≡ suc (on.count - (i + 1)) = omega arith in
+      so_far ∙ rw (k, entry_is, ← get_or-take on.count on.heads i blank more, ← says, add-one)
 
-    pub entry_refused : (x : Refusal) → r ≡ No x → refuse (number_of x) ≡ check_entries (shelf on) 0 on.count
-    unfolding check_entries
-    entry_refused x e =
-        let k : on.count - i ≡ suc (on.count - (i + 1)) = omega arith in
-        rw (so_far.left, k, entry_is, ← says, e)
+  pub entry_refused : (k : ℕ) → i < on.count → refuse k ≡ check_head (head (get_or (take on.count on.heads) i blank)) → refuse k ≡ check_entries (shelf on) 0 on.count
+  unfolding check_entries
+  entry_refused k more says =
+      let m : on.count - i ≡ suc (on.count - (i + 1)) = omega arith in
+      rw (so_far, m, entry_is, ← get_or-take on.count on.heads i blank more, ← says)
 
   pub entries_end : on.count ≤ i → answer tt ≡ check_entries (shelf on) 0 on.count
   unfolding check_entries
-  entries_end l = let k : on.count - i ≡ 0 = omega arith in rw (so_far.left, k)
+  entries_end l = let k : on.count - i ≡ 0 = omega arith in rw (so_far, k)
 
 -- ---- what is kept
 
--- the entries below i are kept, and the rest is blank
-pub record Keeping (on : Shelf) (heads : List Head) (i : ℕ) : Type 0 where
-  pub within : i ≤ on.count
-  pub same : map head heads ≡ take i (map head on.heads) ++ replicate (96 - i) Paper.blank
-
-module _ (on : Shelf) (heads : List Head) (i : ℕ) (so_far : Keeping on heads i) where
-  pub keep_one : i < on.count → on.count ≤ 96 → length on.heads ≡ 96 → Keeping on (set heads i (get_or on.heads i blank)) (i + 1)
-  keep_one more few full =
-      let all : length (map head on.heads) ≡ 96 = length-map on.heads head ∙ full in
-      let v = head (get_or on.heads i blank) in
-      let front : take (i + 1) (map head on.heads) ≡ take i (map head on.heads) ++ (v ∷ []) =
-      rw (add-one, take-suc (map head on.heads) i Paper.blank (omega arith), entry_is on i) in
-      record {
-        within = omega arith;
-        same =
-            map_set head heads i (get_or on.heads i blank)
-            ∙ rw (so_far.same, front) (fill_one (take i (map head on.heads)) i 96 Paper.blank v (length-take-le i (map head on.heads) (omega arith)) (omega arith));
-      }
-
-  pub keep_end : on.count ≤ i → shelf (record { heads = heads; count = on.count }) ≡ kept_shelf (shelf on)
-  unfolding kept_shelf
-  keep_end l = let e : i ≡ on.count = omega (arith, so_far.within) in rw (so_far.same, e)
+-- the entries below the count are kept, and the rest is blank
+pub keeps : (on : Shelf) → shelf (record { heads = take on.count on.heads ++ drop on.count (replicate 96 blank); count = on.count }) ≡ kept_shelf (shelf on)
+unfolding kept_shelf
+keeps on = rw (map-append, drop-replicate, map-replicate, take-map)

@@ -4,19 +4,17 @@ use Prim.Native.Nat.{ℕ}
 use mathlib.Core.Path.{◌≡◌, refl, sym, ap, ◌∙◌}
 use mathlib.Core.Logic.{◌↔◌}
 use mathlib.Core.List.{List, [], ◌∷◌, map}
+use Rattle.std.specs.Prelude.{Result, Err}
 use Rattle.paper.specs.Answer as table
 use Rattle.paper.specs.Answer.{Said, answer, refuse}
 use Rattle.paper.specs.Plan.{laid_out}
 use Rattle.paper.proofs.Plans.{plan_one_outcome, NoList, no_chain_exactly}
 use Rattle.record.specs.declared.head.Head.{Head}
+use Rattle.record.specs.declared.refusal.Refusal.{Refusal}
 use Rattle.record.specs.declared.refusal.Refusal.TheVariants.{NoChain}
 use Rattle.record.specs.Heads.{head}
-use Rattle.record.proofs.One.{one_refusal}
+use Rattle.record.proofs.One.{one_said_by}
 use Rattle.plan.specs.declared.shelf.Shelf.{Shelf}
-use Rattle.plan.specs.declared.shelf.Entries.{Entries}
-use Rattle.plan.specs.declared.shelf.Entries.TheVariants as entries
-use Rattle.plan.specs.declared.planning.PlanSaid.{PlanSaid}
-use Rattle.plan.specs.declared.planning.PlanSaid.TheVariants.{Done, No}
 use Rattle.plan.specs.declared.planning.Plan.{Plan}
 use Rattle.plan.specs.Shelves.{shelf, said_entries}
 use Rattle.plan.specs.Plans.{said_plan, plan, but_for_list, Answers}
@@ -42,17 +40,11 @@ one_shelf s t e =
     λ i. record { heads = heads i; count = (e i).count }
 
 -- what the check of the entries says
-pub one_entries : (r s : Entries) → said_entries r ≡ said_entries s → r ≡ s
-one_entries entries.Sound entries.Sound e = refl
-one_entries entries.Sound (entries.No s) e = cc
-one_entries (entries.No r) entries.Sound e = cc
-one_entries (entries.No r) (entries.No s) e = ap entries.No (one_refusal r s (cc))
+pub one_entries : (r s : Result (Unit {0}) Refusal) → said_entries r ≡ said_entries s → r ≡ s
+one_entries = one_said_by (λ u v e. refl)
 
-one_said : (r s : PlanSaid) → said_plan r ≡ said_plan s → r ≡ s
-one_said Done Done e = refl
-one_said Done (No s) e = cc
-one_said (No r) Done e = cc
-one_said (No r) (No s) e = ap No (one_refusal r s (cc))
+one_said : (r s : Result (Unit {0}) Refusal) → said_plan r ≡ said_plan s → r ≡ s
+one_said = one_entries
 
 pub one_plan : (r s : Plan) → said_plan r.said ≡ said_plan s.said → plan r ≡ plan s → r ≡ s
 one_plan r s e f =
@@ -76,13 +68,13 @@ said_refuses (answer l) k e = cc
 said_refuses (refuse j) k e = cc
 
 pub answers_no_chain_exactly : (on : Shelf) (saved : List ℕ) (target : ℕ) (r : Plan) → Answers on saved target r
-    → (r.said ≡ No NoChain) ↔ NoList (shelf on) saved target
+    → (r.said ≡ Err NoChain) ↔ NoList (shelf on) saved target
 answers_no_chain_exactly on saved target r a = (λ e. said_none (said_refuses a.said table.NoChain (sym (ap said_plan e) ∙ a.told.says)), says_so)
   where
     said_none : a.said ≡ refuse table.NoChain → NoList (shelf on) saved target
     said_none e = (no_chain_exactly (shelf on) saved target).0 (rw e at a.right)
 
-    says_so : NoList (shelf on) saved target → r.said ≡ No NoChain
+    says_so : NoList (shelf on) saved target → r.said ≡ Err NoChain
     says_so n =
         let same : a.said ≡ refuse table.NoChain = plan_one_outcome a.right ((no_chain_exactly (shelf on) saved target).1 n) in
-        one_said r.said (No NoChain) (a.told.says ∙ ap but_for_list same)
+        one_said r.said (Err NoChain) (a.told.says ∙ ap but_for_list same)

@@ -1,17 +1,19 @@
--- `Shelf::check` meets its contract: the entries that are left say what all of them say, and each turn takes one off.
+-- The entries that are left say what all of them say, and each turn takes one off.
+use mathlib.Core.Path.{◌∙◌}
+use native.Mathlib.Omega.{arith}
+use Rattle.record.proofs.Passing.{hands_on}
 use Rattle.plan.proofs.Entries.{entries_begin, entry_passes, entry_refused, entries_end}
 use Rattle.plan.proofs.shelf.Shelf.check.Goals as goal
 
-pub loop-i-init : goal.loop-i-init
-loop-i-init c = entries_begin _
+pub loop-h-init : goal.loop-h-init
+loop-h-init c = entries_begin _
 
-pub loop-i-preserved : goal.loop-i-preserved
-loop-i-preserved c =
-    let at = c.loop-i in
-    entry_passes _ at.i at.invariant _ c.loop-i-test.true c.check-said.ensures _ c.in-Sound.is
+pub loop-h-preserved : goal.loop-h-preserved
+loop-h-preserved c = entry_passes c.args.self c.loop-h.h-index c.loop-h.invariant _ (omega arith) c.in_ok-check.ensures
 
-pub returns-in-No : goal.returns-in-No
-returns-in-No c = search entry_refused
+pub returns-in_err-check : goal.returns-in_err-check
+returns-in_err-check c =
+    hands_on _ _ _ c.from_residual.ensures.1 ∙ entry_refused c.args.self c.loop-h.h-index c.loop-h.invariant _ (omega arith) c.in_err-check.ensures
 
 pub returns : goal.returns
-returns c = search entries_end
+returns c = entries_end _ _ c.loop-h.invariant (omega arith)
