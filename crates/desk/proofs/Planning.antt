@@ -4,20 +4,18 @@ use mathlib.Core.Path.{◌≡◌, refl, sym, ap, ◌∙◌}
 use mathlib.Core.List.{List, ◌++◌}
 use lib.ListN.{length, drop, replicate}
 use borrow.Author.Tests.{lt-ltb, le-ltb}
-use Rattle.paper.specs.Answer.{Said, answer, refuse, ShelfFull, NoRoom}
+use Rattle.paper.specs.Answer.{Said, answer, refuse, NoRoom}
 use Rattle.paper.specs.Plan.{laid_out}
 use Rattle.paper.proofs.Answers.{refuse_not_answer}
+use Rattle.std.specs.Prelude.{Ok, Err}
 use Rattle.record.specs.declared.refusal.Refusal.{Refusal}
 use Rattle.record.specs.Refusals.{number_of}
 use Rattle.plan.specs.declared.shelf.Shelf.{Shelf}
-use Rattle.plan.specs.declared.shelf.Entries.TheVariants as entries
 use Rattle.plan.specs.declared.planning.Plan.{Plan}
-use Rattle.plan.specs.declared.planning.PlanSaid.TheVariants.{Done, No}
 use Rattle.plan.specs.Shelves.{shelf}
 use Rattle.plan.specs.Plans.{said_plan, plan, but_for_list, Answers}
 use Rattle.plan.proofs.One.{said_refuses}
-use Rattle.desk.specs.declared.restores.Shelved.{Shelved}
-use Rattle.desk.specs.Shelves.{read_shelf, said_shelf, unread, planned, plan_row, Restores}
+use Rattle.desk.specs.Shelves.{read_shelf, unread, planned, plan_row, Restores}
 
 -- ---- the shelf
 
@@ -25,17 +23,8 @@ module _ (heads : List ℕ) (count : ℕ) (saved : List ℕ) (target : ℕ) (old
   refused : (k : ℕ) → read_shelf heads count ≡ refuse k → Restores heads count saved target old size k old size
   refused k e = record { said = refuse k; right = unread e; row = refl }
 
-  pub shelf_full : (k : ℕ) → 96 < count → k ≡ ShelfFull → Restores heads count saved target old size k old size
-  unfolding read_shelf
-  shelf_full k h e = rw e (refused ShelfFull (rw (lt-ltb 96 count h) refl))
-
-  pub shelf_no : (s : Shelved) (x : Refusal) (k : ℕ) → said_shelf s ≡ read_shelf heads count → s.said ≡ entries.No x → k ≡ number_of x
-      → Restores heads count saved target old size k old size
-  shelf_no s x k says e f = rw f (refused (number_of x) (sym says ∙ rw e refl))
-
-pub shelf_yes : (heads : List ℕ) (count : ℕ) (s : Shelved) → said_shelf s ≡ read_shelf heads count → s.said ≡ entries.Sound
-    → read_shelf heads count ≡ answer (shelf s.on)
-shelf_yes heads count s says e = sym says ∙ rw e refl
+  pub shelf_no : (n k : ℕ) → read_shelf heads count ≡ refuse n → k ≡ n → Restores heads count saved target old size k old size
+  shelf_no n k e f = rw f (refused n e)
 
 -- ---- the plan
 
@@ -55,12 +44,12 @@ list_row old new size n places list e f g = rw (e, f, g) refl
 
 module _ (heads : List ℕ) (count : ℕ) (saved : List ℕ) (target : ℕ) (old : List ℕ) (size : ℕ) (on : Shelf) (r : Plan)
     (shelved : read_shelf heads count ≡ answer (shelf on)) (a : Answers on saved target r) where
-  pub plan_no : (x : Refusal) (k : ℕ) → r.said ≡ No x → k ≡ number_of x → Restores heads count saved target old size k old size
+  pub plan_no : (x : Refusal) (k : ℕ) → r.said ≡ Err x → k ≡ number_of x → Restores heads count saved target old size k old size
   plan_no x k e f =
       let no = said_refuses a.said (number_of x) (sym (ap said_plan e) ∙ a.told.says) in
       record { said = a.said; right = planned shelved a.right; row = rw (no, f) refl }
 
-  module _ (e : r.said ≡ Done) where
+  module _ (e : r.said ≡ Ok tt) where
     its : Listed a.said
     its = listed a.said (sym (ap said_plan e) ∙ a.told.says)
 

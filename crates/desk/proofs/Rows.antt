@@ -1,55 +1,22 @@
 -- Each way out of a call gives its row: what the proved call below said, put beside what was lent.
-use Prim.Native.Nat.{ℕ, ◌<◌}
-use mathlib.Core.Path.{◌≡◌, refl, sym, ap, ◌∙◌}
+use Prim.Native.Nat.{ℕ}
+use mathlib.Core.Path.{◌≡◌, sym, ap, ◌∙◌}
 use mathlib.Core.List.{List}
-use lib.IntN.{ℤ}
-use lib.ListN.{length}
-use Rattle.paper.specs.Answer.{Said, answer, refuse, Wrote, comes_back, over, BadState}
-use Rattle.paper.specs.Diff as Diff
+use mathlib.Core.Bool.{Bool}
+use lib.Dec.{ltb}
+use borrow.Author.Tests.{ltb-true}
+use Rattle.paper.specs.Answer.{Said, answer, refuse, guard, Wrote, comes_back, over, BadState}
 use Rattle.paper.specs.State as Paper
 use Rattle.paper.specs.State.{write_state}
-use Rattle.paper.specs.Volume.{View}
+use Rattle.paper.proofs.Answers.{refuse_not_answer}
+use Rattle.paper.proofs.Bools.{Which, holds, fails, which}
 use Rattle.record.specs.declared.refusal.Refusal.{Refusal}
-use Rattle.record.specs.declared.head.Head.{Head}
-use Rattle.record.specs.declared.head.HeadSaid.{HeadSaid}
-use Rattle.record.specs.declared.head.HeadSaid.TheVariants as head_said
-use Rattle.record.specs.declared.state.State.{State}
-use Rattle.record.specs.declared.state.StateSaid.{StateSaid}
-use Rattle.record.specs.declared.state.StateSaid.TheVariants as state_said
-use Rattle.record.specs.declared.state.Written.{Written}
-use Rattle.record.specs.declared.state.Written.TheVariants as written
+use Rattle.std.specs.Prelude.{Result, Ok, Err}
 use Rattle.record.specs.Refusals.{number_of}
-use Rattle.record.specs.Heads.{said_head}
-use Rattle.record.specs.States.{kind_number, said_state, said_length}
+use Rattle.record.specs.States.{kind_of, said_length}
 use Rattle.record.proofs.StateLaws.{no_kind, write_bad}
-use Rattle.volume.specs.declared.doing.Ran.{Ran}
-use Rattle.volume.specs.declared.doing.Ran.TheVariants as ran
-use Rattle.volume.specs.declared.view.Place.{Place}
-use Rattle.volume.specs.declared.view.Place.TheVariants as place
-use Rattle.volume.specs.declared.lag.LagSaid.{LagSaid}
-use Rattle.volume.specs.declared.lag.LagSaid.TheVariants as lag_said
-use Rattle.volume.specs.Writes.{said_run}
-use Rattle.volume.specs.Views.{said_place}
-use Rattle.volume.specs.Lags.{said_lag}
-use Rattle.desk.specs.Rows.{head_row, state_row, wrote_row, view_row, lag_row}
-
--- ---- check
-
-module _ (kind p q n : ℕ) (m : Said Diff.Head) (r : HeadSaid) (says : said_head r ≡ m) where
-  pub head_no : (x : Refusal) (k : ℕ) → r ≡ head_said.No x → k ≡ number_of x → (k, kind, p, q, n) ≡ head_row kind p q n m
-  head_no x k e f = rw (← says, e, f) refl
-
-  pub head_yes : (h : Head) → r ≡ head_said.Sound h → (0, h.kind, h.p, h.q, h.n) ≡ head_row kind p q n m
-  head_yes h e = rw (← says, e) refl
-
--- ---- reading a state
-
-module _ (kind b t e : ℕ) (m : Said Paper.State) (r : StateSaid) (says : said_state r ≡ m) where
-  pub state_no : (x : Refusal) (k : ℕ) → r ≡ state_said.No x → k ≡ number_of x → (k, kind, b, t, e) ≡ state_row kind b t e m
-  state_no x k f g = rw (← says, f, g) refl
-
-  pub state_yes : (s : State) (k : ℕ) → r ≡ state_said.Sound s → k ≡ kind_number s.kind → (0, k, s.b, s.t, s.e) ≡ state_row kind b t e m
-  state_yes s k f g = rw (← says, f, g) refl
+use Rattle.desk.specs.Answers.{number_row}
+use Rattle.desk.specs.Rows.{wrote_row}
 
 -- ---- calls that write
 
@@ -66,42 +33,21 @@ unfolding over comes_back
 wrote_yes old number (answer w) new v l e = cc
 wrote_yes old number (refuse j) new v l e = cc
 
-module _ (old : List ℕ) (number : ℕ) (m : Said (Wrote ℕ)) (new : List ℕ) (leaves : new ≡ over old m) where
-  module _ (r : Written) (says : said_length r ≡ comes_back m) where
-    pub length_no : (x : Refusal) (k : ℕ) → r ≡ written.No x → k ≡ number_of x → (k, new, number) ≡ wrote_row old number m
-    length_no x k e f = wrote_no old number m new k leaves (rw f (sym (ap said_length e)) ∙ says)
+-- its number handed out
+pub wrote : (old : List ℕ) (number : ℕ) (m : Said (Wrote ℕ)) (new : List ℕ) (r : Result ℕ Refusal) (k n : ℕ) → new ≡ over old m → said_length r ≡ comes_back m
+    → ◌≡◌ {A = ℕ × ℕ} (k, n) (number_row number r) → (k, new, n) ≡ wrote_row old number m
+wrote old number m new (Ok v) k n l says e = rw (ap (λ (p : ℕ × ℕ). p.0) e, ap (λ (p : ℕ × ℕ). p.1) e) (wrote_yes old number m new v l says)
+wrote old number m new (Err x) k n l says e = rw (ap (λ (p : ℕ × ℕ). p.0) e, ap (λ (p : ℕ × ℕ). p.1) e) (wrote_no old number m new (number_of x) l says)
 
-    pub length_yes : (v : ℕ) → r ≡ written.Bytes v → (0, new, v) ≡ wrote_row old number m
-    length_yes v e = wrote_yes old number m new v leaves (sym (ap said_length e) ∙ says)
+refuse_injective : {A : Type 0} {j k : ℕ} → ◌≡◌ {A = Said A} (refuse j) (refuse k) → j ≡ k
+refuse_injective e = cc
 
-  module _ (r : Ran) (says : said_run r ≡ comes_back m) where
-    pub run_no : (x : Refusal) (k : ℕ) → r ≡ ran.No x → k ≡ number_of x → (k, new, number) ≡ wrote_row old number m
-    run_no x k e f = wrote_no old number m new k leaves (rw f (sym (ap said_run e)) ∙ says)
-
-    pub run_yes : (v : ℕ) → r ≡ ran.Next v → (0, new, v) ≡ wrote_row old number m
-    run_yes v e = wrote_yes old number m new v leaves (sym (ap said_run e) ∙ says)
-
--- a kind above 2
-pub kind_no : (s : Paper.State) (old : List ℕ) (number k : ℕ) → 2 < s.kind → k ≡ BadState → (k, old, number) ≡ wrote_row old number (write_state s (length old))
-kind_no s old number k h e = rw (write_bad s (length old) (no_kind s h), e) refl
-
--- ---- read-through
-
-module _ (slice at : ℕ) (m : Said View) (r : Place) (says : said_place r ≡ m) where
-  pub view_no : (x : Refusal) (k : ℕ) → r ≡ place.No x → k ≡ number_of x → (k, slice, at) ≡ view_row slice at m
-  view_no x k e f = rw (← says, e, f) refl
-
-  pub view_in_diff : (v : ℕ) → r ≡ place.InDiff v → (0, 0, v) ≡ view_row slice at m
-  view_in_diff v e = rw (← says, e) refl
-
-  pub view_in_image : (v : ℕ) → r ≡ place.InImage v → (0, 1, v) ≡ view_row slice at m
-  view_in_image v e = rw (← says, e) refl
-
--- ---- lag
-
-module _ (gids : ℤ) (m : Said ℤ) (r : LagSaid) (says : said_lag r ≡ m) where
-  pub lag_no : (x : Refusal) (k : ℕ) → r ≡ lag_said.No x → k ≡ number_of x → (k, gids) ≡ lag_row gids m
-  lag_no x k e f = rw (← says, e, f) refl
-
-  pub lag_yes : (v : ℤ) → r ≡ lag_said.Gids v → (0, v) ≡ lag_row gids m
-  lag_yes v e = rw (← says, e) refl
+-- a byte that stands for no kind
+pub kind_no : (k : ℕ) (s : Paper.State) (room : ℕ) → refuse k ≡ kind_of s.kind → refuse k ≡ write_state s room
+kind_no k s room e = go (which (ltb 2 s.kind))
+  where
+    go : Which (ltb 2 s.kind) → refuse k ≡ write_state s room
+    go (holds y) =
+        let same : k ≡ BadState = refuse_injective (e ∙ ap (λ (f : Bool). guard f BadState (answer s.kind)) y) in
+        rw same (sym (write_bad s room (no_kind s (ltb-true 2 s.kind y))))
+    go (fails n) = absurd (refuse_not_answer (e ∙ ap (λ (f : Bool). guard f BadState (answer s.kind)) n))

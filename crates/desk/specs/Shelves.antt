@@ -1,12 +1,14 @@
 -- A shelf that crosses as its heads' bytes back to back with a count, and a plan over it.
-use Rattle.std.specs.Prelude.{ℕ, zero, suc, ◌-◌, ◌*◌, ◌≡◌, List, [], ◌∷◌, ◌++◌, ltb, length, drop, replicate}
+use Rattle.std.specs.Prelude.{ℕ, zero, suc, ◌-◌, ◌*◌, ◌≡◌, List, [], ◌∷◌, ◌++◌, ltb, length, drop, replicate, Result}
 use Rattle.paper.specs.Limits.{max_places, head_size}
 use Rattle.paper.specs.Answer.{Said, answer, refuse, guard, ◌then◌, ShelfFull, NoRoom}
 use Rattle.paper.specs.Diff.{Head, read_head}
 use Rattle.paper.specs.Plan as Paper
 use Rattle.paper.specs.Plan.{PlanSays, blank}
-use Rattle.plan.specs.Shelves.{shelf, said_entries}
-use Rattle.desk.specs.declared.restores.Shelved.{Shelved}
+use Rattle.record.specs.declared.refusal.Refusal.{Refusal}
+use Rattle.record.specs.Refusals as Refusals
+use Rattle.plan.specs.declared.shelf.Shelf.{Shelf}
+use Rattle.plan.specs.Shelves.{shelf}
 
 -- k entries from place i on, each read as a diff's head is: "under 24 bytes, mark, BadHead, TooMany"
 unfoldable pub read_entries : List ℕ → ℕ → ℕ → Said (List Head)
@@ -20,8 +22,8 @@ read_shelf heads count =
     (read_entries heads 0 count then λ hs. answer (record { heads = hs ++ replicate (max_places - count) blank; count = count }))
 
 -- what the code's reader of a shelf says
-abbrev pub said_shelf : Shelved → Said Paper.Shelf
-said_shelf r = said_entries r.said then λ _. answer (shelf r.on)
+abbrev pub said_shelf : Result Shelf Refusal → Said Paper.Shelf
+said_shelf = Refusals.said shelf
 
 -- what a plan over such a shelf says, but for NoRoom
 pub data Says (heads : List ℕ) (count : ℕ) (saved : List ℕ) (target : ℕ) : Said (List ℕ) → Type 0 where

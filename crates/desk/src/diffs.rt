@@ -4,20 +4,13 @@ ghost use Rattle.paper.specs.Merge.{merge};
 ghost use Rattle.paper.specs.Compare.{compare};
 ghost use Rattle.desk.specs.Rows.{wrote_row};
 
-use record::state::Written;
+use crate::answers::hand_out;
 
 #[unsafe(no_mangle)]
 pub extern "C" fn minnow_merge(first: &[u8], second: &[u8], out: &mut [u8], size: &mut usize) -> u32
     ensures { (result, out.new, size.new) ≡ wrote_row out.old size.old (merge first.now second.now (length out.old)) }
 {
-    let said = merge::merge(first, second, out);
-    match said {
-        Written::No(r) => r.number(),
-        Written::Bytes(merged) => {
-            *size = merged;
-            0
-        }
-    }
+    hand_out(merge::merge(first, second, out), size)
 }
 
 #[unsafe(no_mangle)]
@@ -31,12 +24,5 @@ pub extern "C" fn minnow_compare(
 ) -> u32
     ensures { (result, out.new, size.new) ≡ wrote_row out.old size.old (compare old.now new.now p q (length out.old)) }
 {
-    let said = compare::compare(old, new, p, q, out);
-    match said {
-        Written::No(r) => r.number(),
-        Written::Bytes(compared) => {
-            *size = compared;
-            0
-        }
-    }
+    hand_out(compare::compare(old, new, p, q, out), size)
 }

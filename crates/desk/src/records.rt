@@ -1,12 +1,14 @@
 // The check of a diff, and state records read and written.
 ghost use Rattle.std.specs.Prelude.{◌≡◌, length};
+ghost use Rattle.paper.specs.Answer.{comes_back, over};
 ghost use Rattle.paper.specs.Diff.{check};
 ghost use Rattle.paper.specs.State.{read_state, write_state};
+ghost use Rattle.record.specs.States.{said_length};
 ghost use Rattle.desk.specs.Rows.{head_row, state_row, wrote_row};
 
-use record::head::HeadSaid;
+use crate::answers::hand_out;
 use record::refusal::Refusal;
-use record::state::{Kind, State, StateSaid, Written};
+use record::state::{Kind, State};
 
 // The check of a diff; its head goes out field by field.
 #[unsafe(no_mangle)]
@@ -19,10 +21,9 @@ pub extern "C" fn minnow_check(
 ) -> u32
     ensures { (result, kind.new, p.new, q.new, n.new) ≡ head_row kind.old p.old q.old n.old (check d.now) }
 {
-    let said = diff::check(d);
-    match said {
-        HeadSaid::No(r) => r.number(),
-        HeadSaid::Sound(h) => {
+    match diff::check(d) {
+        Err(r) => r.number(),
+        Ok(h) => {
             *kind = h.kind;
             *p = h.p;
             *q = h.q;
@@ -43,12 +44,10 @@ pub extern "C" fn minnow_read_state(
 ) -> u32
     ensures { (result, kind.new, b.new, t.new, e.new) ≡ state_row kind.old b.old t.old e.old (read_state saved.now) }
 {
-    let said = State::read(saved);
-    match said {
-        StateSaid::No(r) => r.number(),
-        StateSaid::Sound(s) => {
-            let k = s.kind;
-            *kind = k.number();
+    match State::read(saved) {
+        Err(r) => r.number(),
+        Ok(s) => {
+            *kind = s.kind.number();
             *b = s.b;
             *t = s.t;
             *e = s.e;
@@ -58,7 +57,6 @@ pub extern "C" fn minnow_read_state(
 }
 
 // "A state is also written out as its record (BadState, then NoRoom)."
-#[tactic(auto, using(crate::proofs::Rows::kind_no))]
 #[unsafe(no_mangle)]
 pub extern "C" fn minnow_write_state(
     kind: u8,
@@ -70,17 +68,14 @@ pub extern "C" fn minnow_write_state(
 ) -> u32
     ensures { (result, out.new, size.new) ≡ wrote_row out.old size.old (write_state (record { kind = kind; b = b; t = t; e = e }) (length out.old)) }
 {
-    if kind > 2 {
-        return Refusal::BadState.number();
-    }
-    let k = Kind::of(kind);
-    let s = State { kind: k, b, t, e };
-    let said = s.write(out);
-    match said {
-        Written::No(r) => r.number(),
-        Written::Bytes(bytes) => {
-            *size = bytes;
-            0
-        }
-    }
+    hand_out(write_state(kind, b, t, e, out), size)
+}
+
+// The kind comes from C as a number: a byte above 2 stands for none.
+fn write_state(kind: u8, b: u64, t: u64, e: u64, out: &mut [u8]) -> Result<usize, Refusal>
+    ensures answered { said_length result ≡ comes_back (write_state (record { kind = kind; b = b; t = t; e = e }) (length out.old)) }
+    ensures leaves { out.new ≡ over out.old (write_state (record { kind = kind; b = b; t = t; e = e }) (length out.old)) }
+{
+    let kind = Kind::try_from(kind)?;
+    State { kind, b, t, e }.write(out)
 }

@@ -1,21 +1,13 @@
 // The plan of a restore, over a shelf that crosses as its heads' bytes back to back with a count.
-ghost use Rattle.std.specs.Prelude.{◌≡◌, ◌≤◌, ◌++◌, length, drop};
+ghost use Rattle.std.specs.Prelude.{◌≡◌};
 ghost use Rattle.paper.specs.Answer.{answer};
 ghost use Rattle.plan.specs.Shelves.{shelf};
 ghost use Rattle.desk.specs.Shelves.{read_shelf, said_shelf, Restores};
 
 use plan::planning;
-use plan::planning::PlanSaid;
-use plan::shelf::{Entries, PLACES, Shelf};
-use record::head::{Head, HeadSaid};
+use plan::shelf::{PLACES, Shelf};
+use record::head::Head;
 use record::refusal::Refusal;
-
-// What reading a shelf says, and the shelf: where an entry is refused, the shelf has no part in the answer.
-#[derive(Clone, Copy)]
-struct Shelved {
-    said: Entries,
-    on: Shelf,
-}
 
 // "A plan checks 18, then each entry in shelf order .., then 7, 20, 19", and NoRoom last.
 #[unsafe(no_mangle)]
@@ -29,45 +21,25 @@ pub extern "C" fn minnow_plan(
 ) -> u32
     ensures { Restores heads.now count saved.now target places.old size.old result places.new size.new }
 {
-    if count > PLACES {
-        return Refusal::ShelfFull.number();
-    }
-    let shelved = shelve(heads, count);
-    let entries = shelved.said;
-    match entries {
-        Entries::No(r) => r.number(),
-        Entries::Sound => plan_on(heads, count, shelved.on, saved, target, places, size),
+    match shelve(heads, count) {
+        Err(r) => r.number(),
+        Ok(on) => plan_on(heads, count, on, saved, target, places, size),
     }
 }
 
 // The first `count` heads of the bytes, each read as a diff's head is.
-fn shelve(heads: &[u8], count: usize) -> Shelved
-    requires { count ≤ 96 }
+fn shelve(heads: &[u8], count: usize) -> Result<Shelf, Refusal>
     ensures { said_shelf result ≡ read_shelf heads.now count }
 {
+    if count > PLACES {
+        return Err(Refusal::ShelfFull);
+    }
     let mut on = Shelf::empty().heads;
-    let mut i: usize = 0;
-    let mut at: usize = 0;
-    while i < count {
-        let said = Head::read(&heads[at..]);
-        match said {
-            HeadSaid::No(r) => {
-                return Shelved {
-                    said: Entries::No(r),
-                    on: Shelf::empty(),
-                };
-            }
-            HeadSaid::Sound(h) => {
-                on[i] = h;
-                i += 1;
-                at += Head::SIZE;
-            }
-        }
+    for i in 0..count {
+        let at = Head::SIZE * i;
+        on[i] = Head::read(&heads[at..])?;
     }
-    Shelved {
-        said: Entries::Sound,
-        on: Shelf { heads: on, count },
-    }
+    Ok(Shelf { heads: on, count })
 }
 
 // The plan over a shelf that was read, laid out where `places` opens.
@@ -84,29 +56,15 @@ fn plan_on(
     ensures { Restores heads.now count saved.now target places.old size.old result places.new size.new }
 {
     let plan = planning::plan_restore(on, saved, target);
-    let said = plan.said;
-    match said {
-        PlanSaid::No(r) => r.number(),
-        PlanSaid::Done => {
+    match plan.said {
+        Err(r) => r.number(),
+        Ok(()) => {
             if places.len() < PLACES {
                 return Refusal::NoRoom.number();
             }
-            let list = plan.places;
-            lay_out(list, places);
+            places[..PLACES].copy_from_slice(&plan.places);
             *size = plan.length;
             0
         }
-    }
-}
-
-// The 96 places, put where `out` opens.
-fn lay_out(places: [usize; PLACES], out: &mut [usize])
-    requires { 96 ≤ length out.old }
-    ensures { out.new ≡ places ++ drop 96 out.old }
-{
-    let mut i: usize = 0;
-    while i < PLACES {
-        out[i] = places[i];
-        i += 1;
     }
 }

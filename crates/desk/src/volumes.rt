@@ -4,11 +4,9 @@ ghost use Rattle.paper.specs.Answer.{refuse};
 ghost use Rattle.paper.specs.Volume.{run, read_through, lag};
 ghost use Rattle.desk.specs.Rows.{wrote_row, decide_records, further_row, apply_record, applied_row, view_row, lag_row};
 
+use crate::answers::hand_out;
 use record::refusal::Refusal;
 use record::state::State;
-use volume::decision::Decision;
-use volume::doing::{Applied, Ran};
-use volume::lag::LagSaid;
 use volume::view::Place;
 use volume::{decision, doing, lag, view};
 
@@ -23,18 +21,15 @@ pub extern "C" fn minnow_decide(
 ) -> u32
     ensures { (result, during.new, done.new) ≡ further_row during.old done.old (decide_records d.now saved.now img.now (length during.old) (length done.old)) }
 {
-    let said = decision::decide(d, saved, img);
-    match said {
-        Decision::Refused(r) => r.number(),
-        Decision::Accepted(w, f) => {
-            if during.len() < State::SIZE {
+    match decision::decide(d, saved, img) {
+        Err(r) => r.number(),
+        Ok((w, f)) => {
+            if during.len() < State::SIZE || done.len() < State::SIZE {
                 return Refusal::NoRoom.number();
             }
-            if done.len() < State::SIZE {
-                return Refusal::NoRoom.number();
-            }
-            w.state().write(during);
-            f.state().write(done);
+            // both are states, and there is room: neither is refused
+            let _ = w.state().write(during);
+            let _ = f.state().write(done);
             0
         }
     }
@@ -48,11 +43,11 @@ pub extern "C" fn minnow_apply(d: &[u8], saved: &[u8], img: &mut [u8], done: &mu
     if done.len() < State::SIZE {
         return without_room(d, saved, img);
     }
-    let said = doing::apply(d, saved, img);
-    match said {
-        Applied::No(r) => r.number(),
-        Applied::Done(f) => {
-            f.state().write(done);
+    match doing::apply(d, saved, img) {
+        Err(r) => r.number(),
+        Ok(f) => {
+            // Done is a state, and there is room: it is not refused
+            let _ = f.state().write(done);
             0
         }
     }
@@ -62,10 +57,9 @@ pub extern "C" fn minnow_apply(d: &[u8], saved: &[u8], img: &mut [u8], done: &mu
 fn without_room(d: &[u8], saved: &[u8], img: &[u8]) -> u32
     ensures { refuse result ≡ apply_record d.now saved.now img.now 0 }
 {
-    let said = decision::decide(d, saved, img);
-    match said {
-        Decision::Refused(r) => r.number(),
-        Decision::Accepted(_, _) => Refusal::NoRoom.number(),
+    match decision::decide(d, saved, img) {
+        Err(r) => r.number(),
+        Ok(_) => Refusal::NoRoom.number(),
     }
 }
 
@@ -73,14 +67,7 @@ fn without_room(d: &[u8], saved: &[u8], img: &[u8]) -> u32
 pub extern "C" fn minnow_run(d: &[u8], img: &mut [u8], i: usize, k: usize, next: &mut usize) -> u32
     ensures { (result, img.new, next.new) ≡ wrote_row img.old next.old (run d.now img.old i k) }
 {
-    let said = doing::run(d, img, i, k);
-    match said {
-        Ran::No(r) => r.number(),
-        Ran::Next(end) => {
-            *next = end;
-            0
-        }
-    }
+    hand_out(doing::run(d, img, i, k), next)
 }
 
 // Which slice shows block a (0 the diff, 1 the image), and from which byte on.
@@ -94,15 +81,14 @@ pub extern "C" fn minnow_read_through(
 ) -> u32
     ensures { (result, slice.new, at.new) ≡ view_row slice.old at.old (read_through d.now img.now a) }
 {
-    let said = view::find_block(d, img, a);
-    match said {
-        Place::No(r) => r.number(),
-        Place::InDiff(k) => {
+    match view::find_block(d, img, a) {
+        Err(r) => r.number(),
+        Ok(Place::InDiff(k)) => {
             *slice = 0;
             *at = k;
             0
         }
-        Place::InImage(k) => {
+        Ok(Place::InImage(k)) => {
             *slice = 1;
             *at = k;
             0
@@ -114,12 +100,5 @@ pub extern "C" fn minnow_read_through(
 pub extern "C" fn minnow_lag(saved: &[u8], target: u64, gids: &mut i64) -> u32
     ensures { (result, gids.new) ≡ lag_row gids.old (lag saved.now target) }
 {
-    let said = lag::lag(saved, target);
-    match said {
-        LagSaid::No(r) => r.number(),
-        LagSaid::Gids(n) => {
-            *gids = n;
-            0
-        }
-    }
+    hand_out(lag::lag(saved, target), gids)
 }

@@ -1,9 +1,6 @@
--- `minnow_compare` meets its contract: what the comparison said and left is its row, case by case.
-use Rattle.desk.proofs.Rows.{length_no, length_yes}
+-- What the comparison said and left is its row.
+use Rattle.desk.proofs.Rows.{wrote}
 use Rattle.desk.proofs.diffs.minnow_compare.Goals as goal
 
-pub returns-in-No : goal.returns-in-No
-returns-in-No c = search length_no
-
-pub returns-in-Bytes : goal.returns-in-Bytes
-returns-in-Bytes c = search length_yes
+pub returns : goal.returns
+returns c = wrote _ _ _ _ _ _ _ c.compare.ensures.leaves c.compare.ensures.answered c.hand_out.ensures

@@ -1,12 +1,7 @@
--- `minnow_plan` meets its contract: a shelf that is too long or cannot be read is refused; the rest is `plan_on`'s.
-use Rattle.desk.proofs.Planning.{shelf_full, shelf_no, shelf_yes}
+-- A shelf that is too long or cannot be read is refused; the rest is `plan_on`'s.
+use mathlib.Core.Path.{sym}
+use Rattle.desk.proofs.Planning.{shelf_no}
 use Rattle.desk.proofs.restores.minnow_plan.Goals as goal
 
-pub returns-then-count-gt-PLACES : goal.returns-then-count-gt-PLACES
-returns-then-count-gt-PLACES c = search shelf_full
-
-pub plan_on-requires : goal.plan_on-requires
-plan_on-requires c = search shelf_yes
-
-pub returns-in-No : goal.returns-in-No
-returns-in-No c = search shelf_no
+pub returns-in-Err : goal.returns-in-Err
+returns-in-Err c = shelf_no _ _ _ _ _ _ _ _ (sym c.in-Err.ensures) c.number.ensures

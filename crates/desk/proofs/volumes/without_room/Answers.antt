@@ -1,9 +1,9 @@
--- `without_room` meets its contract: the decision's refusals come first, and NoRoom is what is left.
+-- The decision's refusals come first, and NoRoom is what is left.
 use Rattle.desk.proofs.Deciding.{none_no, none_yes}
 use Rattle.desk.proofs.volumes.without_room.Goals as goal
 
-pub returns-in-Refused : goal.returns-in-Refused
-returns-in-Refused c = search none_no
+pub returns-in-Err : goal.returns-in-Err
+returns-in-Err c = none_no _ _ _ _ _ c.in-Err.ensures c.number.ensures
 
-pub returns-in-Accepted : goal.returns-in-Accepted
-returns-in-Accepted c = search none_yes
+pub returns-in-Ok : goal.returns-in-Ok
+returns-in-Ok c = none_yes _ _ _ _ _ c.in-Ok.ensures c.number-in-Ok.ensures
