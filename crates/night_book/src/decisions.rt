@@ -1,147 +1,88 @@
 // The rows P1 to P12, and the lag.
-use crate::{make, print};
+use crate::make;
+use crate::make::{LARGEST, compared, log};
+use crate::print::Shown;
+use record::head::Head;
 use record::state::State;
 use std::io;
-use volume::decision::Decision;
-use volume::lag::LagSaid;
-use volume::{decision, lag};
+use volume::decision::decide;
+use volume::lag::lag;
 
-// What is decided of the empty diff of a kind from p to q at a state.
-fn decided(rt: &impl Print, name: &str, s: State, kind: u8, p: u64, q: u64) -> io::Result<()> {
-    let img = [0u8; 512];
-    let answer = decision::decide(&make::head(kind, p, q), &make::state(s), &img);
-    print::text(rt, name)?;
-    print::text(rt, ": ")?;
-    match answer {
-        Decision::Accepted(w, d) => {
-            print::while_state(rt, w)?;
-            print::text(rt, ", ")?;
-            print::done_state(rt, d)?;
+// What is decided of an empty diff at a state.
+fn decided(rt: &impl Print, name: &str, s: State, h: Head) -> io::Result<()> {
+    match decide(&make::empty(h), &make::state(s), &[0; 512]) {
+        Ok((w, d)) => {
+            let (during, after) = (Shown(w.state()), Shown(d.state()));
+            println!(rt; "{name}: while {during}, done {after}")
         }
-        Decision::Refused(r) => {
-            print::number(rt, r.number() as u64)?;
-        }
+        Err(no) => println!(rt; "{name}: {}", no.number()),
     }
-    print::end(rt)
 }
 
 pub fn rows(rt: &impl Print) -> io::Result<()> {
-    decided(rt, "P1 clean 7, log 5 9", State::clean(7), 0, 5, 9)?;
-    decided(rt, "P2 clean 7, log 8 9", State::clean(7), 0, 8, 9)?;
-    decided(rt, "P3 clean 7, log 3 7", State::clean(7), 0, 3, 7)?;
-    decided(rt, "P4 clean 7, compared 7 9", State::clean(7), 1, 7, 9)?;
-    decided(rt, "P5 clean 7, compared 5 9", State::clean(7), 1, 5, 9)?;
-    decided(rt, "P6 clean 7, compared 5 7", State::clean(7), 1, 5, 7)?;
-    decided(
-        rt,
-        "P7 dirty 4,4,10, log 4 8",
-        State::settled(4, 10),
-        0,
-        4,
-        8,
-    )?;
-    decided(
-        rt,
-        "P8 dirty 4,4,10, log 2 10",
-        State::settled(4, 10),
-        0,
-        2,
-        10,
-    )?;
-    decided(rt, "P9 pair 7,9,9, log 5 8", State::pair(7, 9), 0, 5, 8)?;
-    decided(
-        rt,
-        "P10 pair 7,12,12, log 8 10",
-        State::pair(7, 12),
-        0,
-        8,
-        10,
-    )?;
-    decided(
-        rt,
-        "P11 pair 7,9,9, compared 7 10",
-        State::pair(7, 9),
-        1,
-        7,
-        10,
-    )?;
-    decided(rt, "P12 pair 7,9,9, log 7 9", State::pair(7, 9), 0, 7, 9)?;
-    decided(rt, "pair 7,9,9, compared 7 9", State::pair(7, 9), 1, 7, 9)?;
-    decided(rt, "pair 7,9,9, compared 6 9", State::pair(7, 9), 1, 6, 9)?;
-    decided(
-        rt,
-        "dirty 4,4,10, compared 4 10",
-        State::settled(4, 10),
-        1,
-        4,
-        10,
-    )?;
-    decided(
-        rt,
-        "dirty 4,4,10, log 4 11",
-        State::settled(4, 10),
-        0,
-        4,
-        11,
-    )?;
-    decided(
-        rt,
-        "clean 0, log 0 largest",
-        State::clean(0),
-        0,
-        0,
-        9_223_372_036_854_775_807,
-    )?;
+    let clean = State::clean(7);
+    let dirty = State::settled(4, 10);
+    let pair = State::pair(7, 9);
+    for (name, s, h) in [
+        ("P1 clean 7, log 5 9", clean, log(5, 9)),
+        ("P2 clean 7, log 8 9", clean, log(8, 9)),
+        ("P3 clean 7, log 3 7", clean, log(3, 7)),
+        ("P4 clean 7, compared 7 9", clean, compared(7, 9)),
+        ("P5 clean 7, compared 5 9", clean, compared(5, 9)),
+        ("P6 clean 7, compared 5 7", clean, compared(5, 7)),
+        ("P7 dirty 4,4,10, log 4 8", dirty, log(4, 8)),
+        ("P8 dirty 4,4,10, log 2 10", dirty, log(2, 10)),
+        ("P9 pair 7,9,9, log 5 8", pair, log(5, 8)),
+        ("P10 pair 7,12,12, log 8 10", State::pair(7, 12), log(8, 10)),
+        ("P11 pair 7,9,9, compared 7 10", pair, compared(7, 10)),
+        ("P12 pair 7,9,9, log 7 9", pair, log(7, 9)),
+        ("pair 7,9,9, compared 7 9", pair, compared(7, 9)),
+        ("pair 7,9,9, compared 6 9", pair, compared(6, 9)),
+        ("dirty 4,4,10, compared 4 10", dirty, compared(4, 10)),
+        ("dirty 4,4,10, log 4 11", dirty, log(4, 11)),
+    ] {
+        decided(rt, name, s, h)?;
+    }
+    let whole = log(0, LARGEST);
+    decided(rt, "clean 0, log 0 largest", State::clean(0), whole)?;
     decided(
         rt,
         "clean largest, log 0 largest",
-        State::clean(9_223_372_036_854_775_807),
-        0,
-        0,
-        9_223_372_036_854_775_807,
-    )?;
-    Ok(())
+        State::clean(LARGEST),
+        whole,
+    )
 }
 
 // Whether the lag of a clean volume is what is wanted.
 fn lagged(rt: &impl Print, name: &str, b: u64, target: u64, wanted: i64) -> io::Result<()> {
-    let answer = lag::lag(&make::state(State::clean(b)), target);
-    print::text(rt, name)?;
-    match answer {
-        LagSaid::Gids(n) => {
-            if n == wanted {
-                print::text(rt, ": yes")?;
-            } else {
-                print::text(rt, ": no")?;
-            }
-        }
-        LagSaid::No(r) => {
-            print::text(rt, ": refused ")?;
-            print::number(rt, r.number() as u64)?;
-        }
+    match lag(&make::state(State::clean(b)), target) {
+        Ok(n) if n == wanted => println!(rt; "{name}: yes"),
+        Ok(_) => println!(rt; "{name}: no"),
+        Err(no) => println!(rt; "{name}: refused {}", no.number()),
     }
-    print::end(rt)
 }
 
 pub fn lags(rt: &impl Print) -> io::Result<()> {
-    lagged(rt, "lag at clean 7 for 9 is -2", 7, 9, -2)?;
-    lagged(rt, "lag at clean 7 for 9 is 2", 7, 9, 2)?;
-    lagged(rt, "lag at clean 9 for 7 is 2", 9, 7, 2)?;
-    lagged(rt, "lag at clean 7 for 7 is 0", 7, 7, 0)?;
-    lagged(
-        rt,
-        "lag at 0 for the largest is the largest below zero",
-        0,
-        9_223_372_036_854_775_807,
-        -9_223_372_036_854_775_807,
-    )?;
-    lagged(
-        rt,
-        "lag at the largest for 0 is the largest",
-        9_223_372_036_854_775_807,
-        0,
-        9_223_372_036_854_775_807,
-    )?;
-    lagged(rt, "lag for 2^63", 7, 9_223_372_036_854_775_808, 0)?;
+    for (name, b, target, wanted) in [
+        ("lag at clean 7 for 9 is -2", 7, 9, -2),
+        ("lag at clean 7 for 9 is 2", 7, 9, 2),
+        ("lag at clean 9 for 7 is 2", 9, 7, 2),
+        ("lag at clean 7 for 7 is 0", 7, 7, 0),
+        (
+            "lag at 0 for the largest is the largest below zero",
+            0,
+            LARGEST,
+            -i64::MAX,
+        ),
+        (
+            "lag at the largest for 0 is the largest",
+            LARGEST,
+            0,
+            i64::MAX,
+        ),
+        ("lag for 2^63", 7, LARGEST + 1, 0),
+    ] {
+        lagged(rt, name, b, target, wanted)?;
+    }
     Ok(())
 }

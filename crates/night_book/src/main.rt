@@ -15,15 +15,12 @@ fn main(rt: HostRuntime) -> io::Result<()> {
     decisions::lags(&rt)?;
     volumes::applies(&rt)?;
     volumes::runs(&rt)?;
-    volumes::runs_at_the_end(&rt)?;
-    volumes::run_outside(&rt)?;
     volumes::views(&rt)?;
     merges::merges(&rt)?;
     merges::merge_edges(&rt)?;
     merges::merge_ends(&rt)?;
     merges::compares(&rt)?;
     merges::odd_compares(&rt)?;
-    merges::ragged_compare(&rt)?;
     plans::rows(&rt)?;
     plans::ends(&rt)?;
     plans::bad(&rt)?;

@@ -1,43 +1,15 @@
-// Rows of output: a name, then numbers.
-use std::io;
-use volume::decision::{Done, While};
+// How a state is printed.
+use record::state::State;
+use std::fmt;
 
-pub fn text(rt: &impl Print, t: &str) -> io::Result<()> {
-    print!(rt; "{t}")
-}
+// A state, as "kind 2 7,9,9".
+#[derive(Clone, Copy)]
+pub struct Shown(pub State);
 
-pub fn number(rt: &impl Print, n: u64) -> io::Result<()> {
-    print!(rt; "{n}")
-}
-
-pub fn byte(rt: &impl Print, b: u8) -> io::Result<()> {
-    number(rt, b as u64)
-}
-
-pub fn end(rt: &impl Print) -> io::Result<()> {
-    text(rt, "\n")
-}
-
-// Three gids.
-fn gids(rt: &impl Print, b: u64, t: u64, e: u64) -> io::Result<()> {
-    text(rt, " ")?;
-    number(rt, b)?;
-    text(rt, ",")?;
-    number(rt, t)?;
-    text(rt, ",")?;
-    number(rt, e)
-}
-
-pub fn while_state(rt: &impl Print, w: While) -> io::Result<()> {
-    let kind = w.kind;
-    text(rt, "while kind ")?;
-    number(rt, kind.number() as u64)?;
-    gids(rt, w.b, w.t, w.e)
-}
-
-pub fn done_state(rt: &impl Print, d: Done) -> io::Result<()> {
-    let kind = d.kind;
-    text(rt, "done kind ")?;
-    number(rt, kind.number() as u64)?;
-    gids(rt, d.b, d.t, d.e)
+impl fmt::Display for Shown {
+    fn fmt<W: fmt::Write>(&self, f: &mut fmt::Formatter<W>) -> fmt::Result {
+        let State { kind, b, t, e } = self.0;
+        let kind = kind.number();
+        write!(f, "kind {kind} {b},{t},{e}")
+    }
 }

@@ -1,181 +1,154 @@
 // The check of a diff at its edges.
-ghost use Rattle.std.specs.Prelude.{◌≤◌};
+ghost use Rattle.std.specs.Prelude.{◌≡◌, ◌+◌, ◌*◌, ◌≤◌, length};
 
 use crate::print::row;
+use diff::check;
 use record::block::Block;
-use record::head::{Head, HeadSaid};
+use record::head::Head;
 use std::io;
 
-// The number that the check of d answers.
-fn checked(d: &[u8]) -> u32 {
-    let said = diff::check(d);
-    match said {
-        HeadSaid::Sound(_) => 0,
-        HeadSaid::No(r) => r.number(),
+// "A gid is at most 9,223,372,036,854,775,807." The rows' own number, so that no bound of the library moves with them.
+pub const LARGEST: u64 = 9_223_372_036_854_775_807;
+
+// The head of a log diff from 5 to 9 without a record.
+const LOG: Head = Head {
+    kind: Head::LOG,
+    spare: 0,
+    p: 5,
+    q: 9,
+    n: 0,
+};
+
+// The same from p to q.
+fn gids(p: u64, q: u64) -> Head {
+    Head { p, q, ..LOG }
+}
+
+// Puts a head and the record of each address where `out` opens. `night_book` has a maker of its own: each program is read by itself, held to its own stored rows.
+fn write_diff(h: Head, addresses: &[u32], out: &mut [u8])
+    requires { 24 + 518 * length addresses.now ≤ length out.old }
+{
+    h.write(out);
+    for (i, &address) in addresses.iter().enumerate() {
+        let block = Block { address };
+        block.write(&mut out[Head::SIZE + Block::SIZE * i..], &[7; 512]);
     }
 }
 
-// A head's 24 bytes.
-fn head(kind: u8, spare: u8, p: u64, q: u64, n: u32) -> [u8; 24] {
-    let mut out = [0u8; 24];
-    Head {
-        kind,
-        spare,
-        p,
-        q,
-        n,
-    }
-    .write(&mut out);
+// The diff that opens with a head and has a record at each address.
+fn diff_of<const K: usize, const N: usize>(h: Head, addresses: [u32; K]) -> [u8; N]
+    requires { N ≡ 24 + 518 * K }
+{
+    let mut out = [0u8; N];
+    write_diff(h, &addresses, &mut out);
     out
 }
 
-// A log diff from 5 to 9 with n = `count` and one record, at address a; the second byte of its mark is `mark`.
-fn one(count: u32, mark: u8, a: u32) -> [u8; 542] {
-    let mut out = [0u8; 542];
-    let content = [7u8; 512];
-    Head {
-        kind: 0,
-        spare: 0,
-        p: 5,
-        q: 9,
-        n: count,
-    }
-    .write(&mut out);
-    Block { address: a }.write(&mut out[24..], &content);
+fn head(h: Head) -> [u8; 24] {
+    diff_of(h, [])
+}
+
+// One record; the second byte of its mark is `mark`, and the head says n.
+fn one(n: u32, mark: u8, a: u32) -> [u8; 542] {
+    let mut out = diff_of(Head { n, ..LOG }, [a]);
     out[25] = mark;
     out
 }
 
-// A diff of two records with the record of block a put in, from `at` on.
-fn with_record(d: [u8; 1060], at: usize, a: u32) -> [u8; 1060]
-    requires { at ≤ 542 }
-{
-    let mut out = d;
-    let content = [7u8; 512];
-    Block { address: a }.write(&mut out[at..], &content);
-    out
-}
-
-// One with two records, at addresses a and b.
 fn two(a: u32, b: u32) -> [u8; 1060] {
-    let mut out = [0u8; 1060];
-    Head {
-        kind: 0,
-        spare: 0,
-        p: 5,
-        q: 9,
-        n: 2,
-    }
-    .write(&mut out);
-    with_record(with_record(out, 24, a), 542, b)
+    diff_of(Head { n: 2, ..LOG }, [a, b])
 }
 
 pub fn heads(rt: &impl Print) -> io::Result<()> {
     row(
         rt,
         "the 24-byte example",
-        checked(
+        check(
             b"\x57\x44\x00\x00\x05\x00\x00\x00\x00\x00\x00\x00\x09\x00\x00\x00\x00\x00\x00\x00\x00\x00\x00\x00",
         ),
     )?;
-    row(rt, "log 5 9 written", checked(&head(0, 0, 5, 9, 0)))?;
-    row(rt, "compared 5 9", checked(&head(1, 0, 5, 9, 0)))?;
-    row(rt, "kind 2", checked(&head(2, 0, 5, 9, 0)))?;
-    row(rt, "kind 255", checked(&head(255, 0, 5, 9, 0)))?;
-    row(rt, "spare 1", checked(&head(0, 1, 5, 9, 0)))?;
-    row(rt, "p = q", checked(&head(0, 0, 5, 5, 0)))?;
-    row(rt, "p > q", checked(&head(0, 0, 9, 5, 0)))?;
-    row(
-        rt,
-        "q the largest gid",
-        checked(&head(0, 0, 5, 9_223_372_036_854_775_807, 0)),
-    )?;
-    row(
-        rt,
-        "q 2^63",
-        checked(&head(0, 0, 5, 9_223_372_036_854_775_808, 0)),
-    )?;
-    row(
-        rt,
-        "p and q 2^63 and above",
-        checked(&head(
-            0,
-            0,
-            9_223_372_036_854_775_808,
-            9_223_372_036_854_775_809,
-            0,
-        )),
-    )?;
-    row(
-        rt,
-        "n 65,536 and no record",
-        checked(&head(0, 0, 5, 9, 65_536)),
-    )?;
-    row(
-        rt,
-        "n 65,537 and no record",
-        checked(&head(0, 0, 5, 9, 65_537)),
-    )?;
-    row(
-        rt,
-        "kind 2 and n 65,537",
-        checked(&head(2, 0, 5, 9, 65_537)),
-    )?;
-    row(
-        rt,
-        "p = q and n 4,294,967,295",
-        checked(&head(0, 0, 5, 5, 4_294_967_295)),
-    )?;
+    for (name, h) in [
+        ("log 5 9 written", LOG),
+        (
+            "compared 5 9",
+            Head {
+                kind: Head::COMPARED,
+                ..LOG
+            },
+        ),
+        ("kind 2", Head { kind: 2, ..LOG }),
+        ("kind 255", Head { kind: 255, ..LOG }),
+        ("spare 1", Head { spare: 1, ..LOG }),
+        ("p = q", gids(5, 5)),
+        ("p > q", gids(9, 5)),
+        ("q the largest gid", gids(5, LARGEST)),
+        ("q 2^63", gids(5, LARGEST + 1)),
+        ("p and q 2^63 and above", gids(LARGEST + 1, LARGEST + 2)),
+        ("n 65,536 and no record", Head { n: 65_536, ..LOG }),
+        ("n 65,537 and no record", Head { n: 65_537, ..LOG }),
+        (
+            "kind 2 and n 65,537",
+            Head {
+                kind: 2,
+                n: 65_537,
+                ..LOG
+            },
+        ),
+        (
+            "p = q and n 4,294,967,295",
+            Head {
+                n: 4_294_967_295,
+                ..gids(5, 5)
+            },
+        ),
+    ] {
+        row(rt, name, check(&head(h)))?;
+    }
     Ok(())
 }
 
 pub fn lengths(rt: &impl Print) -> io::Result<()> {
-    let empty = head(0, 0, 5, 9, 0);
-    row(rt, "no byte", checked(&empty[0..0]))?;
-    row(rt, "23 bytes", checked(&empty[0..23]))?;
-    row(rt, "24 bytes", checked(&empty))?;
-    row(rt, "22 bytes without the mark", checked(&empty[2..24]))?;
-    let wrong = [0u8; 24];
-    row(rt, "24 zero bytes", checked(&wrong))?;
+    let empty = head(LOG);
     let whole = one(1, 0x42, 3);
-    row(rt, "n 1 and 24 bytes", checked(&whole[0..24]))?;
-    row(rt, "n 1 and 541 bytes", checked(&whole[0..541]))?;
-    row(rt, "n 1 and 542 bytes", checked(&whole))?;
     let long = two(3, 4);
-    row(rt, "n 2 and 1,059 bytes", checked(&long[0..1059]))?;
-    row(rt, "n 2 and 1,060 bytes", checked(&long))?;
-    row(rt, "n 0 and 542 bytes", checked(&one(0, 0x42, 3)))?;
-    row(
-        rt,
-        "n 0, 542 bytes and a wrong mark",
-        checked(&one(0, 0x43, 3)),
-    )?;
+    for (name, d) in [
+        ("no byte", &empty[0..0]),
+        ("23 bytes", &empty[0..23]),
+        ("24 bytes", &empty[..]),
+        ("22 bytes without the mark", &empty[2..]),
+        ("24 zero bytes", &[0; 24]),
+        ("n 1 and 24 bytes", &whole[0..24]),
+        ("n 1 and 541 bytes", &whole[0..541]),
+        ("n 1 and 542 bytes", &whole),
+        ("n 2 and 1,059 bytes", &long[0..1059]),
+        ("n 2 and 1,060 bytes", &long),
+        ("n 0 and 542 bytes", &one(0, 0x42, 3)),
+        ("n 0, 542 bytes and a wrong mark", &one(0, 0x43, 3)),
+    ] {
+        row(rt, name, check(d))?;
+    }
     Ok(())
 }
 
 pub fn records(rt: &impl Print) -> io::Result<()> {
-    row(rt, "a wrong block mark", checked(&one(1, 0x43, 3)))?;
-    row(
-        rt,
-        "a wrong block mark and address 65,536",
-        checked(&one(1, 0x43, 65_536)),
-    )?;
-    row(rt, "address 0", checked(&one(1, 0x42, 0)))?;
-    row(rt, "address 65,535", checked(&one(1, 0x42, 65_535)))?;
-    row(rt, "address 65,536", checked(&one(1, 0x42, 65_536)))?;
-    row(
-        rt,
-        "address 4,294,967,295",
-        checked(&one(1, 0x42, 4_294_967_295)),
-    )?;
-    row(rt, "addresses 3 and 4", checked(&two(3, 4)))?;
-    row(rt, "addresses 3 and 3", checked(&two(3, 3)))?;
-    row(rt, "addresses 4 and 3", checked(&two(4, 3)))?;
-    row(rt, "addresses 0 and 65,535", checked(&two(0, 65_535)))?;
-    row(
-        rt,
-        "addresses 65,535 and 65,536",
-        checked(&two(65_535, 65_536)),
-    )?;
+    for (name, mark, a) in [
+        ("a wrong block mark", 0x43, 3),
+        ("a wrong block mark and address 65,536", 0x43, 65_536),
+        ("address 0", 0x42, 0),
+        ("address 65,535", 0x42, 65_535),
+        ("address 65,536", 0x42, 65_536),
+        ("address 4,294,967,295", 0x42, 4_294_967_295),
+    ] {
+        row(rt, name, check(&one(1, mark, a)))?;
+    }
+    for (name, a, b) in [
+        ("addresses 3 and 4", 3, 4),
+        ("addresses 3 and 3", 3, 3),
+        ("addresses 4 and 3", 4, 3),
+        ("addresses 0 and 65,535", 0, 65_535),
+        ("addresses 65,535 and 65,536", 65_535, 65_536),
+    ] {
+        row(rt, name, check(&two(a, b)))?;
+    }
     Ok(())
 }

@@ -14,6 +14,7 @@ fn main(rt: HostRuntime) -> io::Result<()> {
     states::reading(&rt)?;
     states::kinds(&rt)?;
     states::writing(&rt)?;
+    states::kinds_written(&rt)?;
     states::images(&rt)?;
     Ok(())
 }

@@ -1,6 +1,16 @@
 // One row of output.
+use record::refusal::Refusal;
 use std::io;
 
-pub fn row(rt: &impl Print, name: &str, number: u32) -> io::Result<()> {
+// The number that an answer stands for: its refusal's, or 0.
+fn number_of<T: Drop>(said: Result<T, Refusal>) -> u32 {
+    match said {
+        Ok(_) => 0,
+        Err(no) => no.number(),
+    }
+}
+
+pub fn row<T: Drop>(rt: &impl Print, name: &str, said: Result<T, Refusal>) -> io::Result<()> {
+    let number = number_of(said);
     println!(rt; "{name}: {number}")
 }
