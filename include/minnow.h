@@ -14,7 +14,7 @@
  * or run until all records are written; make the image durable; then save the Done record. A cut at any moment then leaves
  * a state that is true of the volume, and the diff that was cut is accepted again.
  *
- * Stack: a comparison uses about 64 KiB, a plan about 16 KiB, the others little.
+ * Stack: a comparison uses about 64 KiB, a plan about 12 KiB, the others little.
  */
 #ifndef MINNOW_H
 #define MINNOW_H
