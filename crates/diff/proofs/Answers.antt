@@ -9,6 +9,11 @@ use Rattle.paper.specs.Answer.{answer, refuse, CutOff, Tail}
 use Rattle.paper.specs.Diff.{Head, diff_size, check_records, read_head, check}
 
 module _ (d : List ℕ) where
+  -- the head is refused
+  pub head_no : (k : ℕ) → read_head d ≡ refuse k → refuse k ≡ check d
+  unfolding check
+  head_no k e = rw e
+
   module _ (h : Head) (passed : read_head d ≡ answer h) where
     pub too_short : length d < diff_size h → refuse CutOff ≡ check d
     unfolding check

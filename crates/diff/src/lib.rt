@@ -30,6 +30,7 @@ pub fn check(d: &[u8]) -> Result<Head, Refusal>
 }
 
 // The diff itself, where it passes.
+#[tactic(auto, using(crate::proofs::Answers::head_no))]
 pub fn whole<'a>(d: &'a [u8]) -> Result<Checked<'a>, Refusal>
     ensures says { said_whole result ≡ check d.now }
     ensures kept { IfOk result (λ c. c.d ≡ d.entry) }

@@ -18,6 +18,18 @@ pub enum Kind {
 }
 
 impl Kind {
+    // The kind that a byte of at most 2 stands for. It cannot fail: `try_from`, below, is for any byte.
+    pub fn of(byte: u8) -> Kind
+        requires { byte ≤ 2 }
+        ensures { kind_number result ≡ byte }
+    {
+        match byte {
+            0 => Kind::Settled,
+            1 => Kind::Span,
+            _ => Kind::Pair,
+        }
+    }
+
     // Its number in 01.
     pub fn number(self) -> u8
         ensures { result ≡ kind_number self }

@@ -18,7 +18,7 @@ pub returns-in_err-blocks : goal.returns-in_err-blocks
 returns-in_err-blocks c = hands_back _ _ _ _ c.from_residual-in_err-blocks.ensures.1 (sym (second_bad _ _ _ _ _ c.in_err-blocks.ensures))
 
 pub returns-then-old-new : goal.returns-then-old-new
-returns-then-old-new c = both (refused _ (unequal _ _ _ _ _ c.if-old-new.true))
+returns-then-old-new c = both (refused _ (unequal _ _ _ _ _ (λ e. omega (arith, c.if-old-new.true))))
 
 pub returns-in_err-check : goal.returns-in_err-check
 returns-in_err-check c =
