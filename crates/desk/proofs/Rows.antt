@@ -1,22 +1,37 @@
 -- Each way out of a call gives its row: what the proved call below said, put beside what was lent.
 use Prim.Native.Nat.{ℕ}
-use mathlib.Core.Path.{◌≡◌, sym, ap, ◌∙◌}
+use mathlib.Core.Path.{◌≡◌, refl, sym, ap, ◌∙◌}
 use mathlib.Core.List.{List}
 use mathlib.Core.Bool.{Bool}
 use lib.Dec.{ltb}
+use lib.IntN.{ℤ}
 use borrow.Author.Tests.{ltb-true}
 use Rattle.paper.specs.Answer.{Said, answer, refuse, guard, Wrote, comes_back, over, BadState}
+use Rattle.paper.specs.Diff as Diff
 use Rattle.paper.specs.State as Paper
 use Rattle.paper.specs.State.{write_state}
 use Rattle.paper.proofs.Answers.{refuse_not_answer}
 use Rattle.paper.proofs.Bools.{Which, holds, fails, which}
 use Rattle.record.specs.declared.refusal.Refusal.{Refusal}
 use Rattle.std.specs.Prelude.{Result, Ok, Err}
+use Rattle.record.specs.declared.head.Head.{Head}
 use Rattle.record.specs.Refusals.{number_of}
+use Rattle.record.specs.Heads.{said_head}
 use Rattle.record.specs.States.{kind_of, said_length}
 use Rattle.record.proofs.StateLaws.{no_kind, write_bad}
 use Rattle.desk.specs.Answers.{number_row}
-use Rattle.desk.specs.Rows.{wrote_row}
+use Rattle.volume.specs.Lags.{said_lag}
+use Rattle.desk.specs.Rows.{head_row, lag_row, wrote_row}
+
+-- ---- the check of a diff, and the lag
+
+module _ (kind p q n : ℕ) (m : Said Diff.Head) (r : Result Head Refusal) (says : said_head r ≡ m) where
+  pub head_no : (x : Refusal) (k : ℕ) → r ≡ Err x → k ≡ number_of x → (k, kind, p, q, n) ≡ head_row kind p q n m
+  head_no x k e f = rw (← says, e, f) refl
+
+module _ (gids : ℤ) (m : Said ℤ) (r : Result ℤ Refusal) (says : said_lag r ≡ m) where
+  pub lag_yes : (v : ℤ) → r ≡ Ok v → (0, v) ≡ lag_row gids m
+  lag_yes v e = rw (← says, e) refl
 
 -- ---- calls that write
 
